@@ -1,0 +1,35 @@
+-- What reading and writing a list of lines answers, and a part of a list.
+use mathlib.Core.Path.{_≡_}
+use mathlib.Core.List.{List}
+use Prim.Native.Nat.{ℕ, min, _+_, _-_, _<_, _≤_}
+use lib.ListN.{length, set, take, drop}
+use Rattle.std.specs.Finite.{nth}
+use Rattle.std.specs.declared.option.Option.the-variants.{Some}
+use Rattle.std.specs.declared.result.Result.{Result}
+use Rattle.std.specs.declared.result.Result.the-variants.{Ok, Err}
+use Rattle.book.specs.declared.refusal.BookRefusal.{BookRefusal}
+use Rattle.book.specs.declared.refusal.BookRefusal.the-variants.{NoLine}
+
+-- the value of line l, or the refusal of a line that is not there
+abbrev pub Reads : {V : Type 0} → List V → ℕ → Result V BookRefusal → Type 0
+Reads xs l (Ok v) = (l < length xs) × (nth xs l ≡ Some v)
+Reads xs l (Err e) = (length xs ≤ l) × (e ≡ NoLine)
+
+-- line l alone has the value v afterwards, or the refusal of a line that is not there, and nothing changed
+abbrev pub Writes : {V : Type 0} → List V → ℕ → V → List V → Result (Unit {0}) BookRefusal → Type 0
+Writes before l v after (Ok u) = (l < length before) × (after ≡ set before l v)
+Writes before l v after (Err e) = (length before ≤ l) × (e ≡ NoLine) × (after ≡ before)
+
+-- at most c elements, from place a on
+abbrev pub part : {V : Type 0} → ℕ → ℕ → List V → List V
+part a c xs = take c (drop a xs)
+
+-- ys begins at min a n of the n elements of xs, has min c (n - min a n) of them, and its element i is that at min a n + i
+pub record Is-part {V : Type 0} (a c : ℕ) (xs ys : List V) : Type 0 where
+  pub size : length ys ≡ min c (length xs - min a (length xs))
+  pub line : (i : ℕ) → i < length ys → nth ys i ≡ nth xs (min a (length xs) + i)
+
+-- a write to line l of a part that begins at a, seen from below: the line a + l alone is written, or nothing
+abbrev pub Written-below : {V : Type 0} → ℕ → List V → ℕ → V → List V → Result (Unit {0}) BookRefusal → Type 0
+Written-below a before l v after (Ok u) = after ≡ set before (a + l) v
+Written-below a before l v after (Err e) = after ≡ before
