@@ -1,4 +1,4 @@
--- A kind of value by its rows: which rows are values, and how a row lies in bytes.
+-- A kind of value by its rows: which rows are values, how a row lies in bytes, and how its value is printed.
 use mathlib.Core.Path.{_≡_}
 use mathlib.Core.List.{List, _++_}
 use Prim.Native.Nat.{ℕ, _≤_, _<_}
@@ -20,6 +20,8 @@ pub record Format (R : Type 0) : Type 0 where
   -- the row at the front of some bytes, and the bytes of a row
   pub decoded : List ℕ → R
   pub encoded : R → List ℕ
+  -- how the value of a row is printed
+  pub text : R → List ℕ
 
 -- what every format keeps: the blank is a value, and what was encoded decodes to the same value
 pub record Sound {R : Type 0} (f : Format R) : Type 0 where

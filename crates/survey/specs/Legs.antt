@@ -29,8 +29,17 @@ leg-at bs = leg-row (getD bs 0 0) (getD bs 1 0) (getD bs 2 0) (four (drop 3 bs))
 abbrev pub leg-bytes : LegRow → List ℕ
 leg-bytes r = r .from ∷ r .to ∷ r .passage ∷ four-bytes (r .length)
 
-abbrev pub leg-format : Format LegRow
-leg-format = record { width = 7; blank = leg-row 0 0 0 1; fault = leg-fault; decoded = leg-at; encoded = leg-bytes }
-
+-- from, to, passage and length, with a space between
 abbrev pub leg-text : LegRow → List ℕ
 leg-text r = decimal (r .from) ++ (codes " " ++ (decimal (r .to) ++ (codes " " ++ (decimal (r .passage) ++ (codes " " ++ decimal (r .length))))))
+
+abbrev pub leg-format : Format LegRow
+leg-format =
+    record {
+      width = 7;
+      blank = leg-row 0 0 0 1;
+      fault = leg-fault;
+      decoded = leg-at;
+      encoded = leg-bytes;
+      text = leg-text;
+    }

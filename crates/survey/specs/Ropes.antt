@@ -18,6 +18,9 @@ metres-row n = record { count = n }
 abbrev pub metres-fault : MetresRow → Option ValueFault
 metres-fault r = cond (leb (r .count) 1000000) None (Some Metres)
 
+abbrev pub metres-text : MetresRow → List ℕ
+metres-text r = decimal (r .count)
+
 abbrev pub metres-format : Format MetresRow
 metres-format =
     record {
@@ -26,7 +29,5 @@ metres-format =
       fault = metres-fault;
       decoded = λ bs. metres-row (four bs);
       encoded = λ r. four-bytes (r .count);
+      text = metres-text;
     }
-
-abbrev pub metres-text : MetresRow → List ℕ
-metres-text r = decimal (r .count)

@@ -2,13 +2,15 @@
 ghost use mathlib.Core.List.{List, _++_};
 ghost use mathlib.Core.Path.{_≡_};
 ghost use Prim.Native.Nat.{ℕ};
+ghost use Rattle.std.specs.declared.option.Option.the-variants.{Some};
 ghost use Rattle.survey.specs.Bytes.{Puts};
 ghost use Rattle.survey.specs.Formats.{Format, Sound, Checks, Decodes, «or-blank»};
 use crate::fault::ValueFault;
+use std::fmt;
 
 // Plain numbers as books and files hold them, and the value that they stand for where they are within its ranges.
 pub trait Row: Copy {
-    type Value: Copy;
+    type Value: Copy + fmt::Display;
 
     ghost format: { Format Self };
 
@@ -16,6 +18,8 @@ pub trait Row: Copy {
     ghost plain: { Self·Value → Self };
 
     law sound: { Sound format };
+
+    law printed: { (v : Self·Value) → Value·Display .shown v ≡ Some (format .text (plain v)) };
 
     // How many bytes a row takes in a file.
     fn width() -> usize
