@@ -1,0 +1,8 @@
+// The book file: n lines and m pairs, then m line numbers, then m values, all little-endian.
+mod bytes;
+mod check;
+pub mod fault;
+mod layout;
+pub mod load;
+
+pub use check::stated_lines;
