@@ -1,7 +1,7 @@
 -- The layout of a book file, and the first fault of some bytes that should be one.
 use mathlib.Core.Path.{_≡_}
-use mathlib.Core.Bool.{cond}
-use mathlib.Core.List.{List}
+use mathlib.Core.Bool.{Bool, true, false, not, cond}
+use mathlib.Core.List.{List, [], _∷_}
 use Prim.Native.Nat.{ℕ, zero, suc, min, _+_, _*_, _≤_}
 use lib.Dec.{leb, ltb, eqb}
 use lib.ListN.{length, drop}
@@ -41,9 +41,18 @@ abbrev pub value-fault : ℕ → Option ValueFault → Option FileFault
 value-fault place None = None
 value-fault place (Some fault) = fault-at place (Value fault)
 
+abbrev pub fault-where : Bool → ℕ → FileCause → Option FileFault
+fault-where true place cause = fault-at place cause
+fault-where false place cause = None
+
 abbrev pub or-else : {F : Type 0} → Option F → Option F → Option F
 or-else None next = next
 or-else (Some first) next = Some first
+
+-- the first fault of several checks
+abbrev pub first-of : {F : Type 0} → List (Option F) → Option F
+first-of [] = None
+first-of (check ∷ checks) = or-else check (first-of checks)
 
 module _ {R : Type 0} (f : Format R) where
   -- the values begin behind the m line numbers
@@ -58,7 +67,8 @@ module _ {R : Type 0} (f : Format R) where
 
   -- first the line of pair i, then its value
   abbrev pub pair-fault : ℕ → ℕ → List ℕ → ℕ → Option FileFault
-  pair-fault n m bs i = cond (ltb (line-of bs i) n) (value-fault (value-place m i) (f .fault (row-of m bs i))) (fault-at (line-place i) Line)
+  pair-fault n m bs i =
+      first-of (fault-where (leb n (line-of bs i)) (line-place i) Line ∷ value-fault (value-place m i) (f .fault (row-of m bs i)) ∷ [])
 
   -- the first fault of k pairs, from pair i on
   unfoldable pub pairs-fault : ℕ → ℕ → List ℕ → ℕ → ℕ → Option FileFault
@@ -68,7 +78,12 @@ module _ {R : Type 0} (f : Format R) where
   -- the first fault of bs before its pairs: too few bytes, then n, then m, then the length
   abbrev pub head-fault : ℕ → List ℕ → Option FileFault
   head-fault n bs =
-      cond (ltb (length bs) 4) (fault-at (length bs) Short) (cond (eqb (line-count bs) n) (cond (leb (pair-count bs) 4096) (cond (eqb (length bs) (file-size (pair-count bs))) None (fault-at (min (length bs) (file-size (pair-count bs))) Length)) (fault-at 2 Pairs)) (fault-at 0 Lines))
+      first-of
+      (fault-where (ltb (length bs) 4) (length bs) Short
+      ∷ fault-where (not (eqb (line-count bs) n)) 0 Lines
+      ∷ fault-where (ltb 4096 (pair-count bs)) 2 Pairs
+      ∷ fault-where (not (eqb (length bs) (file-size (pair-count bs)))) (min (length bs) (file-size (pair-count bs))) Length
+      ∷ [])
 
   -- the first fault of bs as a file for a book of n lines
   abbrev pub file-fault : ℕ → List ℕ → Option FileFault

@@ -5,6 +5,7 @@ ghost use mathlib.Core.Path.{_≡_};
 ghost use Prim.Native.Nat.{_≤_, _<_};
 ghost use Rattle.bookfile.specs.Files.{«file-size», «line-of», «row-of»};
 ghost use Rattle.bookfile.specs.Loads.{loaded, Loads};
+ghost use Rattle.bookfile.specs.Meanings.{Exactly};
 use crate::bytes::row_at;
 use crate::bytes::two_at;
 use crate::check::check;
@@ -35,7 +36,8 @@ fn load_pairs<R: Row, B: Book<Value = R>>(bytes: &[u8], pairs: usize, book: &mut
 
 // Checks the whole file first and then writes its pairs in order; a file with a fault changes no line.
 pub fn load<R: Row, B: Book<Value = R>>(bytes: &[u8], book: &mut B) -> Result<(), FileFault>
-    ensures { λ r. ⌜ Loads (R·Row .format) (now (bytes .entry)) (B·Book .lines (now (book .entry))) (B·Book .lines (now (book .exit))) r ⌝ }
+    ensures loads { λ r. ⌜ Loads (R·Row .format) (now (bytes .entry)) (B·Book .lines (now (book .entry))) (B·Book .lines (now (book .exit))) r ⌝ }
+    ensures exactly { λ _. ⌜ Exactly (R·Row .format) (length (B·Book .lines (now (book .entry)))) (now (bytes .entry)) ⌝ }
 {
     let pairs = check::<R>(bytes, book.size())?;
     load_pairs(bytes, pairs, book);
