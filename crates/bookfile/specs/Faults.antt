@@ -6,6 +6,8 @@ use Rattle.survey.specs.Faults as values
 use Rattle.bookfile.specs.declared.fault.FileCause.{FileCause}
 use Rattle.bookfile.specs.declared.fault.FileCause.the-variants.{Short, Lines, Pairs, Length, Line, Value}
 use Rattle.bookfile.specs.declared.fault.FileFault.{FileFault}
+use Rattle.bookfile.specs.declared.save.SaveRefusal.{SaveRefusal}
+use Rattle.bookfile.specs.declared.save.SaveRefusal.the-variants.{ShortOutput}
 
 abbrev pub number : FileCause → ℕ
 number Short = 31
@@ -28,3 +30,7 @@ inner (Value fault) = values.number fault
 abbrev pub at : {T : Type 0} → ℕ → Result T FileCause → Result T FileFault
 at place (Ok found) = Ok found
 at place (Err cause) = Err (record { place = place; cause = cause })
+
+-- the number of the refusal to save
+abbrev pub save-number : SaveRefusal → ℕ
+save-number ShortOutput = 36

@@ -2,3 +2,4 @@ pub mod Faults
 pub mod Files
 pub mod Loads
 pub mod Meanings
+pub mod Saves

@@ -4,5 +4,6 @@ mod check;
 pub mod fault;
 mod layout;
 pub mod load;
+pub mod save;
 
 pub use check::stated_lines;
