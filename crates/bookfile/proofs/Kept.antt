@@ -1,21 +1,25 @@
 -- A saved book, loaded again, has the same lines.
-use mathlib.Core.Path.{_≡_, refl, sym, ap, _∙_}
+use mathlib.Core.Path.{_≡_, refl, sym, ap, _∙_, subst}
 use mathlib.Core.List.{List, [], _∷_, _++_, map}
 use Prim.Native.Nat.{ℕ, zero, suc, _+_, _*_, _<_, _≤_}
 use native.Mathlib.Nat.{mul-suc, mul-zero}
 use native.Mathlib.Omega.{arith}
-use mathlib.Core.Logic.{inl, inr}
+use mathlib.Core.Logic.{_≢_, inl, inr}
 use lib.ListN.{length, getD, set, take, drop}
 use Rattle.std.specs.Joined.{joined}
 use Rattle.std.specs.declared.option.Option.{Option}
 use Rattle.std.specs.declared.option.Option.the-variants.{Some, None}
-use Rattle.std.proofs.shelf.Lists.{append-assoc, append-nil, drop-drop, drop-at, drop-all, drop-more, set-at, map-append, length-map, take-more, length-take-le, take-all}
+use Rattle.std.specs.declared.result.Result.{Result}
+use Rattle.std.specs.declared.result.Result.the-variants.{Ok, Err}
+use Rattle.std.proofs.shelf.Lists.{append-assoc, append-nil, drop-drop, drop-at, drop-all, drop-more, set-at, map-append, length-map, take-more, length-take-le, take-all, take-at}
 use Rattle.std.proofs.shelf.Tests.{cases-lt}
 use Rattle.survey.specs.declared.fault.ValueFault.{ValueFault}
 use Rattle.survey.specs.Bytes.{two, two-bytes}
 use Rattle.survey.specs.Formats.{Format, Sound, unless, or-blank}
+use Rattle.bookfile.specs.declared.fault.FileCause.the-variants.{Lines}
+use Rattle.bookfile.specs.declared.fault.FileFault.{FileFault}
 use Rattle.bookfile.specs.Files.{line-of, row-of, pair-count, line-count, file-size, file-fault, value-place}
-use Rattle.bookfile.specs.Loads.{loaded}
+use Rattle.bookfile.specs.Loads.{loaded, Loads}
 use Rattle.bookfile.specs.Meanings.{Right-head, Right-pair}
 use Rattle.bookfile.specs.Saves.{numbers, value-bytes, file-of, Keeps-lines}
 use Rattle.bookfile.proofs.Exact.{exactly}
@@ -135,3 +139,31 @@ module _ {R : Type 0} (f : Format R) (sound : Sound f) where
     pub keeps-lines : Keeps-lines f rows bs
     keeps-lines book same =
         (ap (λ k. file-fault f k bs) same ∙ exactly f n bs .taken (head-right, pair-right), all-loaded book same)
+
+    -- what loading the file of these lines into some book answers and leaves
+    abbrev Loaded-copy : List R → List R → Result (Unit {0}) FileFault → Type 0
+    Loaded-copy before after (Ok x) = (length before ≡ n) × (after ≡ map (or-blank f) rows)
+    Loaded-copy before after (Err e) = (length before ≢ n) × (e ≡ record { place = 0; cause = Lines }) × (after ≡ before)
+
+    pub loads-copy : (before after : List R) (r : Result (Unit {0}) FileFault) → Loads f bs before after r → Loaded-copy before after r
+    loads-copy before after (Ok x) h =
+        let same : length before ≡ n = sym (exactly f (length before) bs .right (h .0) .0 .lines) ∙ lines-are in
+        (same, h .1 ∙ sym (all-loaded before same))
+    loads-copy before after (Err e) h =
+        let other : length before ≢ n = λ same. let z : _≡_ {A = Option FileFault} None (Some e) = sym (keeps-lines before same .0) ∙ h .0 in never z in
+        let apart : line-count bs ≢ length before = λ q. other (sym q ∙ lines-are) in
+        let wrong = exactly f (length before) bs .refused (record { place = 0; cause = Lines }) (head-right .room, apart, refl) in
+        (other, same-some (sym (h .0) ∙ wrong), h .1)
+      where
+        never : {e : FileFault} → _≡_ {A = Option FileFault} None (Some e) → ⊥
+        never z = let q : _≡_ {A = ℕ} 0 1 = cc in omega arith
+
+        same-some : {a b : FileFault} → _≡_ {A = Option FileFault} (Some a) (Some b) → a ≡ b
+        same-some z = cc
+
+    -- the same of the front of an output into which these lines were saved
+    pub loads-saved : (size k : ℕ) (old out : List ℕ) (before after : List R) (r : Result (Unit {0}) FileFault) → size ≡ length bs → k ≡ size → out ≡ bs ++ drop size old
+        → Loads f (take k out) before after r → Loaded-copy before after r
+    loads-saved size k old out before after r e j o h =
+        let front : take k out ≡ bs = ap (take k) o ∙ take-at bs (drop size old) k (sym (j ∙ e)) in
+        loads-copy before after r (subst (λ l. Loads f l before after r) front h)

@@ -3,3 +3,4 @@ pub mod Files
 pub mod Loads
 pub mod Meanings
 pub mod Saves
+pub mod Copies

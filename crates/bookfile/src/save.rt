@@ -82,6 +82,7 @@ fn put_value<R: Row, B: Book<Value = R>>(book: &B, line: usize, out: &mut [u8], 
 pub fn save<R: Row, B: Book<Value = R>>(book: &B, out: &mut [u8]) -> Result<usize, SaveRefusal>
     ensures saves { λ r. ⌜ Saves (R·Row .format) (B·Book .lines (now (book .entry))) (now (out .entry)) (now (out .exit)) r ⌝ }
     ensures keeps { λ r. ⌜ made r (λ size. «Keeps-lines» (R·Row .format) (B·Book .lines (now (book .entry))) (take size (now (out .exit)))) ⌝ }
+    ensures few { λ _. ⌜ length (B·Book .lines (now (book .entry))) ≤ 1024 ⌝ }
 {
     let lines = book.size();
     let size = file_size::<R>(lines);

@@ -16,7 +16,7 @@ pub returns-then-size-out : need.returns-then-size-out
 returns-then-size-out g c =
     let f = g .R·Row .format in
     let long = c .file-size-size .ensures ∙ ap (file-size f) (c .size-lines .ensures .value) ∙ sym (file-length f (g .R·Row·met .sound) (g .B·Book .lines (c .args .book .now))) in
-    record { saves = (refl, subst (λ n. length (c .args .out .now) < n) long (c .if-size-out .taken), refl); keeps = tt }
+    record { saves = (refl, subst (λ n. length (c .args .out .now) < n) long (c .if-size-out .taken), refl); keeps = tt; few = omega arith }
 
 pub returns : need.returns
 returns g c =
@@ -36,4 +36,5 @@ returns g c =
     record {
       saves = (size, fits, after);
       keeps = subst (Keeps-lines f lines) (sym front) (keeps-lines f (g .R·Row·met .sound) lines (omega arith));
+      few = omega arith;
     }
