@@ -1,0 +1,2 @@
+// The turn list, read where it lies, and the listing's bytes.
+pub mod listing;
