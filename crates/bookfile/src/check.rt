@@ -20,7 +20,8 @@ use survey::row::Row;
 
 // The lines that the file states, at most 1,024: 0 where it has no room for the number.
 pub fn stated_lines(bytes: &[u8]) -> usize
-    ensures { λ r. ⌜ r ≡ «stated-lines» (now (bytes .entry)) ⌝ }
+    ensures value { λ r. ⌜ r ≡ «stated-lines» (now (bytes .entry)) ⌝ }
+    ensures bound { λ r. ⌜ r ≤ 1024 ⌝ }
 {
     if bytes.len() < 2 {
         return 0;

@@ -1,0 +1,3 @@
+// What the programs do between reading and printing.
+pub mod memory;
+pub mod show;
