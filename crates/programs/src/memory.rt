@@ -1,6 +1,7 @@
 // Want of memory, the one thing that stops a program between reading and printing.
 use std::alloc::AllocError;
 use std::alloc::Refused;
+use std::error::Error;
 use std::fmt;
 
 #[derive(Clone, Copy, Debug, PartialEq, Eq)]
@@ -23,3 +24,11 @@ pub impl From<fmt::Error> for NoMemory as NoMemoryFromFmt {
         NoMemory
     }
 }
+
+pub impl fmt::Display for NoMemory as NoMemoryDisplay {
+    fn fmt<W: fmt::Write>(&self, f: &mut fmt::Formatter<W>) -> fmt::Result {
+        write!(f, "there is not enough memory")
+    }
+}
+
+pub impl Error for NoMemory as NoMemoryError {}

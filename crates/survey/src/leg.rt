@@ -3,6 +3,9 @@ ghost use Prim.Native.Nat.{_≤_};
 
 mod methods;
 
+pub use methods::LegDisplay;
+pub use methods::LegRowRow;
+
 // The plain numbers of a leg, with no promise about their ranges.
 #[derive(Clone, Copy, Debug, PartialEq, Eq)]
 pub struct LegRow {

@@ -3,6 +3,9 @@ ghost use Prim.Native.Nat.{_≤_};
 
 mod methods;
 
+pub use methods::MetresDisplay;
+pub use methods::MetresRowRow;
+
 // A plain number of metres, with no promise about its range.
 #[derive(Clone, Copy, Debug, PartialEq, Eq)]
 pub struct MetresRow {
