@@ -17,6 +17,8 @@ pub const LAST_STATION: u32 = 15;
 
 pub const LONGEST: u32 = 10_000_000;
 
+pub const LEG_BYTES: usize = 7;
+
 pub const CLOSED: u8 = 0;
 
 pub const OPEN: u8 = 1;
@@ -82,7 +84,7 @@ pub impl Row for LegRow as LegRowRow {
     ghost plain = { λ l. l .row };
 
     fn width() -> usize {
-        7
+        LEG_BYTES
     }
 
     fn blank() -> Leg {
@@ -124,7 +126,7 @@ pub impl Row for LegRow as LegRowRow {
     }
 
     fn encode(value: Leg, out: &mut [u8], place: usize) -> Option<usize> {
-        let row = value.row;
+        let row = LegRow::of(value);
         let [l0, l1, l2, l3] = row.length.to_le_bytes();
         put(out, place, &[row.from, row.to, row.passage, l0, l1, l2, l3])
     }

@@ -13,6 +13,8 @@ use crate::fault::ValueFault;
 use crate::row::Row;
 use std::fmt;
 
+pub const METRES_BYTES: usize = 4;
+
 pub const MOST_METRES: u32 = 1_000_000;
 
 impl Metres {
@@ -32,7 +34,7 @@ pub impl Row for MetresRow as MetresRowRow {
     ghost plain = { λ m. m .row };
 
     fn width() -> usize {
-        4
+        METRES_BYTES
     }
 
     fn blank() -> Metres {
@@ -63,7 +65,7 @@ pub impl Row for MetresRow as MetresRowRow {
     }
 
     fn encode(value: Metres, out: &mut [u8], place: usize) -> Option<usize> {
-        put(out, place, &value.row.count.to_le_bytes())
+        put(out, place, &value.count().to_le_bytes())
     }
 }
 
@@ -71,7 +73,7 @@ pub impl fmt::Display for Metres as MetresDisplay {
     ghost shown = { λ m. Some («metres-text» (m .row)) };
 
     fn fmt<W: fmt::Write>(&self, f: &mut fmt::Formatter<W>) -> fmt::Result {
-        let count = self.row.count;
+        let count = self.count();
         write!(f, "{count}")
     }
 }
