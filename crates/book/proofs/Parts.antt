@@ -13,7 +13,7 @@ use Rattle.std.specs.declared.result.Result.{Result}
 use Rattle.std.specs.declared.result.Result.the-variants.{Ok, Err}
 use Rattle.std.proofs.shelf.Lists.{length-take, length-drop, drop-set-add}
 use Rattle.book.specs.declared.refusal.BookRefusal.{BookRefusal}
-use Rattle.book.specs.Books.{part, Is-part, Reads, Writes, Written-below}
+use Rattle.book.specs.Books.{part, Is-part, Is-line, Reads, Writes, Written-below}
 
 pub nth-take : {V : Type 0} (n : ℕ) (xs : List V) (i : ℕ) → i < n → nth (take n xs) i ≡ nth xs i
 nth-take zero xs i h = absurd (omega arith)
@@ -71,6 +71,15 @@ module _ {V : Type 0} (a c : ℕ) (xs : List V) where
 
   pub is-part : Is-part a c xs (part a c xs)
   is-part = record { size = part-size; line = λ i h. part-line i h ∙ ap (nth xs) (sym (begins (min a (length xs)) i refl h)) }
+
+  pub is-line : (start i : ℕ) → start ≡ min a (length xs) → i < length (part a c xs) → Is-line a c xs i (start + i)
+  is-line start i s h =
+      record {
+        within = h;
+        reads = part-reads start i s h;
+        writes = λ v ys r q. part-writes start i s h v ys r q .0;
+        below = λ v ys r q. part-writes start i s h v ys r q .1;
+      }
 
 -- lists of one length with the same elements are equal
 pub same-lines : {V : Type 0} (xs ys : List V) → length xs ≡ length ys → ((i : ℕ) → i < length xs → nth xs i ≡ nth ys i) → xs ≡ ys

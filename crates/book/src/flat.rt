@@ -4,8 +4,6 @@ ghost use lib.ListN.{length, set, take};
 ghost use mathlib.Core.List.{List};
 ghost use mathlib.Core.Path.{_≡_};
 ghost use Prim.Native.Nat.{_<_, _≤_};
-ghost use Rattle.std.specs.Finite.{nth};
-ghost use Rattle.std.specs.declared.option.Option.the-variants.{Some};
 ghost use Rattle.book.specs.Books.{Reads, Writes, «Written-below»};
 use crate::book::Book;
 use crate::book::MOST_LINES;
@@ -26,18 +24,42 @@ impl<'a, V: Copy> FlatBook<'a, V> {
     }
 }
 
-fn slice_at<V: Copy>(slice: &[V], place: usize) -> V
-    requires { ⌜ place < length (now slice) ⌝ }
-    ensures { λ r. ⌜ nth (now (slice .entry)) place ≡ Some r ⌝ }
+// How many places of the memory are lines.
+fn line_count<V: Copy>(memory: &[V]) -> usize
+    ensures value { λ r. ⌜ r ≡ length (take 1024 (now (memory .entry))) ⌝ }
+    ensures bound { λ r. ⌜ r ≤ 1024 ⌝ }
+    ensures within { λ r. ⌜ r ≤ length (now (memory .entry)) ⌝ }
 {
-    slice[place]
+    memory.len().min(MOST_LINES)
 }
 
-fn slice_put<V: Copy>(slice: &mut [V], place: usize, value: V)
-    requires { ⌜ place < length (now slice) ⌝ }
-    ensures { λ _. ⌜ now (slice .exit) ≡ set (now (slice .entry)) place value ⌝ }
+fn read_line<V: Copy>(memory: &[V], line: usize) -> Result<V, BookRefusal>
+    ensures { λ r. ⌜ Reads (take 1024 (now (memory .entry))) line r ⌝ }
 {
-    slice[place] = value;
+    if line < line_count(memory) {
+        Ok(memory[line])
+    } else {
+        Err(BookRefusal::NoLine)
+    }
+}
+
+fn put_at<V: Copy>(memory: &mut [V], place: usize, value: V)
+    requires { ⌜ place < length (now memory) ⌝ }
+    ensures { λ _. ⌜ now (memory .exit) ≡ set (now (memory .entry)) place value ⌝ }
+{
+    memory[place] = value;
+}
+
+fn write_line<V: Copy>(memory: &mut [V], line: usize, value: V) -> Result<(), BookRefusal>
+    ensures lines { λ r. ⌜ Writes (take 1024 (now (memory .entry))) line value (take 1024 (now (memory .exit))) r ⌝ }
+    ensures places { λ r. ⌜ «Written-below» 0 (now (memory .entry)) line value (now (memory .exit)) r ⌝ }
+{
+    if line < line_count(memory) {
+        put_at(memory, line, value);
+        Ok(())
+    } else {
+        Err(BookRefusal::NoLine)
+    }
 }
 
 pub impl<'a, V: Copy> Book for FlatBook<'a, V> as FlatBookBook {
@@ -46,15 +68,11 @@ pub impl<'a, V: Copy> Book for FlatBook<'a, V> as FlatBookBook {
     ghost lines = { λ b. take 1024 (now (b .memory)) };
 
     fn size(&self) -> usize {
-        self.memory.len().min(MOST_LINES)
+        line_count(self.memory)
     }
 
     fn read(&self, line: usize) -> Result<V, BookRefusal> {
-        if line < self.size() {
-            Ok(slice_at(self.memory, line))
-        } else {
-            Err(BookRefusal::NoLine)
-        }
+        read_line(self.memory, line)
     }
 
     fn write(&mut self, line: usize, value: V) -> Result<(), BookRefusal>
@@ -62,11 +80,6 @@ pub impl<'a, V: Copy> Book for FlatBook<'a, V> as FlatBookBook {
         ensures memory { λ r. ⌜ «Written-below» 0 (now (now (self .entry) .memory)) line value (now (now (self .exit) .memory)) r ⌝ }
         ensures named { λ _. ⌜ name (now (self .exit) .memory) ≡ name (now (self .entry) .memory) ⌝ }
     {
-        if line < self.size() {
-            slice_put(self.memory, line, value);
-            Ok(())
-        } else {
-            Err(BookRefusal::NoLine)
-        }
+        write_line(self.memory, line, value)
     }
 }

@@ -21,7 +21,7 @@ use Rattle.bookfile.specs.declared.fault.FileFault.{FileFault}
 use Rattle.bookfile.specs.Files.{line-of, row-of, pair-count, line-count, file-size, file-fault, value-place}
 use Rattle.bookfile.specs.Loads.{loaded, Loads}
 use Rattle.bookfile.specs.Meanings.{Right-head, Right-pair}
-use Rattle.bookfile.specs.Saves.{numbers, value-bytes, file-of, Keeps-lines}
+use Rattle.bookfile.specs.Saves.{numbers, value-bytes, file-of, Puts-front, Keeps-lines}
 use Rattle.bookfile.proofs.Exact.{exactly}
 use Rattle.bookfile.proofs.Saving.{numbers-size, file-length}
 
@@ -162,8 +162,8 @@ module _ {R : Type 0} (f : Format R) (sound : Sound f) where
         same-some z = cc
 
     -- the same of the front of an output into which these lines were saved
-    pub loads-saved : (size k : ℕ) (old out : List ℕ) (before after : List R) (r : Result (Unit {0}) FileFault) → size ≡ length bs → k ≡ size → out ≡ bs ++ drop size old
+    pub loads-saved : (size k : ℕ) (old out : List ℕ) (before after : List R) (r : Result (Unit {0}) FileFault) → size ≡ length bs → k ≡ size → Puts-front bs old out
         → Loads f (take k out) before after r → Loaded-copy before after r
     loads-saved size k old out before after r e j o h =
-        let front : take k out ≡ bs = ap (take k) o ∙ take-at bs (drop size old) k (sym (j ∙ e)) in
+        let front : take k out ≡ bs = ap (take k) o ∙ take-at bs (drop (length bs) old) k (sym (j ∙ e)) in
         loads-copy before after r (subst (λ l. Loads f l before after r) front h)

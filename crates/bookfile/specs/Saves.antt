@@ -17,6 +17,10 @@ unfoldable pub numbers : ℕ → List ℕ
 numbers zero = []
 numbers (suc n) = numbers n ++ two-bytes n
 
+-- bs stands at the front, and the rest is as it was
+abbrev pub Puts-front : List ℕ → List ℕ → List ℕ → Type 0
+Puts-front bs before after = after ≡ bs ++ drop (length bs) before
+
 module _ {R : Type 0} (f : Format R) where
   -- a row outside the ranges is saved as the blank
   abbrev pub value-bytes : R → List ℕ
@@ -26,9 +30,9 @@ module _ {R : Type 0} (f : Format R) where
   unfoldable pub file-of : List R → List ℕ
   file-of lines = (two-bytes (length lines) ++ two-bytes (length lines)) ++ (numbers (length lines) ++ joined value-bytes lines)
 
-  -- the file stands at the front of the output, whose rest is as it was; or it does not fit, and nothing was written
+  -- the file stands at the front of the output; or it does not fit, and nothing was written
   abbrev pub Saves : List R → List ℕ → List ℕ → Result ℕ SaveRefusal → Type 0
-  Saves lines before after (Ok size) = (size ≡ length (file-of lines)) × (size ≤ length before) × (after ≡ file-of lines ++ drop size before)
+  Saves lines before after (Ok size) = (size ≡ length (file-of lines)) × (size ≤ length before) × Puts-front (file-of lines) before after
   Saves lines before after (Err e) = (e ≡ ShortOutput) × (length before < length (file-of lines)) × (after ≡ before)
 
   -- loaded into any book of that size, bs gives the same lines, rows outside the ranges counting as the blank

@@ -1,7 +1,8 @@
 // The check of a whole book file, before anything is written.
 ghost use lib.ListN.{length, drop};
 ghost use mathlib.Core.Path.{_≡_};
-ghost use Prim.Native.Nat.{_+_, _*_, _≤_, _<_};
+ghost use Prim.Native.Nat.{ℕ, _+_, _≤_, _<_};
+ghost use Rattle.bookfile.specs.Meanings.{Exactly};
 ghost use Rattle.survey.specs.Bytes.{two};
 ghost use Rattle.bookfile.specs.Files.{«file-size», «pair-fault», «pairs-fault», «file-fault», «pair-count», «stated-lines», «value-fault», Tells, «Tells-cause», «Tells-head», «Tells-file»};
 use crate::bytes::row_at;
@@ -106,7 +107,8 @@ fn check_head<R: Row>(bytes: &[u8], lines: usize) -> Result<usize, FileFault>
 
 // The number of pairs of a file that is right for a book of `lines` lines, or the first fault.
 pub(crate) fn check<R: Row>(bytes: &[u8], lines: usize) -> Result<usize, FileFault>
-    ensures { λ r. ⌜ «Tells-file» (R·Row .format) lines (now (bytes .entry)) r ⌝ }
+    ensures tells { λ r. ⌜ Tells-file (R·Row .format) lines (now (bytes .entry)) r ⌝ }
+    ensures exactly { λ _. ⌜ ((n : ℕ) → Exactly (R·Row .format) n (now (bytes .entry))) ⌝ }
 {
     let pairs = check_head::<R>(bytes, lines)?;
     check_pairs::<R>(bytes, lines, pairs)?;

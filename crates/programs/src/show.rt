@@ -1,12 +1,13 @@
 // Shows a book file: the lines of the book that it makes, or its fault.
 ghost use denote.Ref.{now};
-ghost use lib.ListN.{replicate};
+ghost use lib.ListN.{replicate, take};
 ghost use mathlib.Core.List.{_++_};
 ghost use mathlib.Core.Path.{_≡_};
 ghost use Rattle.std.specs.Of.String.{string-bytes};
 ghost use Rattle.std.specs.Of.Vec.{vec-items};
 ghost use Rattle.std.specs.Vec.{made};
 ghost use Rattle.script.specs.Listing.{look-line, fault-line};
+ghost use Rattle.bookfile.specs.Files.{stated-lines};
 ghost use Rattle.survey.specs.Formats.{or-blank};
 ghost use Rattle.programs.specs.Shows.{book-lines, lines-or-fault, shown};
 ghost use Rattle.script.specs.BookFaults.{printed};
@@ -71,6 +72,14 @@ fn blank_lines<R: Row>(heap: Global, count: usize) -> Result<Vec<R>, NoMemory>
     Ok(rows)
 }
 
+// Memory for the book of a file: as many blank rows as it states.
+fn blank_book<R: Row>(heap: Global, file: &[u8]) -> Result<Vec<R>, NoMemory>
+    ensures { λ r. ⌜ made r (λ rows. take 1024 (vec-items rows) ≡ replicate (stated-lines (now (file .entry))) (R·Row .format .blank)) ⌝ }
+{
+    let rows = blank_lines(heap, stated_lines(file))?;
+    Ok(rows)
+}
+
 // Loads a file into a book and adds every line of it, or the fault of the file and nothing else.
 fn push_loaded<R: Row, B: Book<Value = R>>(
     out: &mut String,
@@ -89,7 +98,7 @@ fn push_loaded<R: Row, B: Book<Value = R>>(
 pub fn show<R: Row>(heap: Global, file: &[u8]) -> Result<String, NoMemory>
     ensures { λ r. ⌜ made r (λ text. string-bytes text ≡ shown (R·Row .format) (now (file .entry))) ⌝ }
 {
-    let mut rows = blank_lines::<R>(heap, stated_lines(file))?;
+    let mut rows = blank_book::<R>(heap, file)?;
     let mut book = FlatBook::new(rows.as_mut_slice());
     let mut out = String::new(heap);
     push_loaded(&mut out, file, &mut book)?;

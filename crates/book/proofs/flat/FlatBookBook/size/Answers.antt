@@ -1,6 +1,0 @@
-use native.Mathlib.Omega.{arith}
-use Rattle.book.proofs.Parts.{front-size}
-use Rattle.book.proofs.flat.FlatBookBook.size.Needs as need
-
-pub returns : need.returns
-returns g c = let e = front-size 1024 (c .args .self .now .memory .now) in record { value = omega arith; bound = omega arith }

@@ -1,0 +1,3 @@
+// Examples at the edges of ranges, books and files.
+#[cfg(test)]
+mod tests;

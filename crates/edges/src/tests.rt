@@ -1,0 +1,4 @@
+mod books;
+mod files;
+mod shown;
+mod values;
