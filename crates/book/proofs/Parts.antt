@@ -13,7 +13,8 @@ use Rattle.std.specs.declared.result.Result.{Result}
 use Rattle.std.specs.declared.result.Result.the-variants.{Ok, Err}
 use Rattle.std.proofs.shelf.Lists.{length-take, length-drop, drop-set-add}
 use Rattle.book.specs.declared.refusal.BookRefusal.{BookRefusal}
-use Rattle.book.specs.Books.{part, Is-part, Is-line, Reads, Writes, Written-below}
+use Rattle.book.specs.Books.{Reads, Writes}
+use Rattle.book.specs.Chapters.{part, Is-part, Is-line, Written-below}
 
 pub nth-take : {V : Type 0} (n : ℕ) (xs : List V) (i : ℕ) → i < n → nth (take n xs) i ≡ nth xs i
 nth-take zero xs i h = absurd (omega arith)

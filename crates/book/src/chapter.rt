@@ -1,10 +1,10 @@
 // A part of a book, itself a book.
 ghost use denote.Ref.{now};
 ghost use lib.ListN.{length};
-ghost use mathlib.Core.List.{List};
 ghost use mathlib.Core.Path.{_≡_};
 ghost use Prim.Native.Nat.{_+_, _≤_, min};
-ghost use Rattle.book.specs.Books.{Writes, part, Written-below, Is-part, Finds-below};
+ghost use Rattle.book.specs.Books.{Writes};
+ghost use Rattle.book.specs.Chapters.{part, Written-below, Is-part, Finds-below};
 use crate::book::Book;
 use crate::refusal::BookRefusal;
 

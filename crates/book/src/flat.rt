@@ -1,10 +1,10 @@
 // A book over lent memory of values.
 ghost use denote.Ref.{now, name};
 ghost use lib.ListN.{length, set, take};
-ghost use mathlib.Core.List.{List};
 ghost use mathlib.Core.Path.{_≡_};
 ghost use Prim.Native.Nat.{_<_, _≤_};
-ghost use Rattle.book.specs.Books.{Reads, Writes, «Written-below»};
+ghost use Rattle.book.specs.Books.{Reads, Writes};
+ghost use Rattle.book.specs.Chapters.{Written-below};
 use crate::book::Book;
 use crate::book::MOST_LINES;
 use crate::refusal::BookRefusal;
@@ -52,7 +52,7 @@ fn put_at<V: Copy>(memory: &mut [V], place: usize, value: V)
 
 fn write_line<V: Copy>(memory: &mut [V], line: usize, value: V) -> Result<(), BookRefusal>
     ensures lines { λ r. ⌜ Writes (take 1024 (now (memory .entry))) line value (take 1024 (now (memory .exit))) r ⌝ }
-    ensures places { λ r. ⌜ «Written-below» 0 (now (memory .entry)) line value (now (memory .exit)) r ⌝ }
+    ensures places { λ r. ⌜ Written-below 0 (now (memory .entry)) line value (now (memory .exit)) r ⌝ }
 {
     if line < line_count(memory) {
         put_at(memory, line, value);
@@ -77,7 +77,7 @@ pub impl<'a, V: Copy> Book for FlatBook<'a, V> as FlatBookBook {
 
     fn write(&mut self, line: usize, value: V) -> Result<(), BookRefusal>
         ensures lines { λ r. ⌜ Writes (take 1024 (now (now (self .entry) .memory))) line value (take 1024 (now (now (self .exit) .memory))) r ⌝ }
-        ensures memory { λ r. ⌜ «Written-below» 0 (now (now (self .entry) .memory)) line value (now (now (self .exit) .memory)) r ⌝ }
+        ensures memory { λ r. ⌜ Written-below 0 (now (now (self .entry) .memory)) line value (now (now (self .exit) .memory)) r ⌝ }
         ensures named { λ _. ⌜ name (now (self .exit) .memory) ≡ name (now (self .entry) .memory) ⌝ }
     {
         write_line(self.memory, line, value)

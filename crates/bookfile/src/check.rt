@@ -4,7 +4,7 @@ ghost use mathlib.Core.Path.{_≡_};
 ghost use Prim.Native.Nat.{ℕ, _+_, _≤_, _<_};
 ghost use Rattle.bookfile.specs.Meanings.{Exactly};
 ghost use Rattle.survey.specs.Bytes.{two};
-ghost use Rattle.bookfile.specs.Files.{«file-size», «pair-fault», «pairs-fault», «file-fault», «pair-count», «stated-lines», «value-fault», Tells, «Tells-cause», «Tells-head», «Tells-file»};
+ghost use Rattle.bookfile.specs.Files.{file-size, pair-fault, pairs-fault, stated-lines, value-fault, Tells, Tells-cause, Tells-head, Tells-file};
 use crate::bytes::row_at;
 use crate::bytes::two_at;
 use crate::fault::FileCause;
@@ -21,7 +21,7 @@ use survey::row::Row;
 
 // The lines that the file states, at most 1,024: 0 where it has no room for the number.
 pub fn stated_lines(bytes: &[u8]) -> usize
-    ensures value { λ r. ⌜ r ≡ «stated-lines» (now (bytes .entry)) ⌝ }
+    ensures value { λ r. ⌜ r ≡ stated-lines (now (bytes .entry)) ⌝ }
     ensures bound { λ r. ⌜ r ≤ 1024 ⌝ }
 {
     if bytes.len() < 2 {
@@ -32,7 +32,7 @@ pub fn stated_lines(bytes: &[u8]) -> usize
 
 // Whether a row is a value.
 fn check_row<R: Row>(row: R) -> Result<(), FileCause>
-    ensures { λ r. ⌜ «Tells-cause» (R·Row .format .fault row) r ⌝ }
+    ensures { λ r. ⌜ Tells-cause (R·Row .format .fault row) r ⌝ }
 {
     let _value = row.check()?;
     Ok(())
@@ -41,7 +41,7 @@ fn check_row<R: Row>(row: R) -> Result<(), FileCause>
 // Whether the row that begins at `place` is a value.
 fn check_value<R: Row>(bytes: &[u8], place: usize) -> Result<(), FileFault>
     requires { ⌜ place + R·Row .format .width ≤ length (now bytes) ⌝ }
-    ensures { λ r. ⌜ Tells («value-fault» place (R·Row .format .fault (R·Row .format .decoded (drop place (now (bytes .entry)))))) r ⌝ }
+    ensures { λ r. ⌜ Tells (value-fault place (R·Row .format .fault (R·Row .format .decoded (drop place (now (bytes .entry)))))) r ⌝ }
 {
     located(check_row(row_at::<R>(bytes, place)), place)
 }
@@ -53,8 +53,8 @@ fn check_pair<R: Row>(
     pairs: usize,
     pair: usize,
 ) -> Result<(), FileFault>
-    requires { ⌜ pairs ≤ 4096 ⌝ ∗ ⌜ pair < pairs ⌝ ∗ ⌜ length (now bytes) ≡ «file-size» (R·Row .format) pairs ⌝ }
-    ensures { λ r. ⌜ Tells («pair-fault» (R·Row .format) lines pairs (now (bytes .entry)) pair) r ⌝ }
+    requires { ⌜ pairs ≤ 4096 ⌝ ∗ ⌜ pair < pairs ⌝ ∗ ⌜ length (now bytes) ≡ file-size (R·Row .format) pairs ⌝ }
+    ensures { λ r. ⌜ Tells (pair-fault (R·Row .format) lines pairs (now (bytes .entry)) pair) r ⌝ }
 {
     let place = line_place::<R>(pairs, pair);
     if two_at(bytes, place) >= lines {
@@ -65,8 +65,8 @@ fn check_pair<R: Row>(
 }
 
 fn check_pairs<R: Row>(bytes: &[u8], lines: usize, pairs: usize) -> Result<(), FileFault>
-    requires { ⌜ pairs ≤ 4096 ⌝ ∗ ⌜ length (now bytes) ≡ «file-size» (R·Row .format) pairs ⌝ }
-    ensures { λ r. ⌜ Tells («pairs-fault» (R·Row .format) lines pairs (now (bytes .entry)) 0 pairs) r ⌝ }
+    requires { ⌜ pairs ≤ 4096 ⌝ ∗ ⌜ length (now bytes) ≡ file-size (R·Row .format) pairs ⌝ }
+    ensures { λ r. ⌜ Tells (pairs-fault (R·Row .format) lines pairs (now (bytes .entry)) 0 pairs) r ⌝ }
 {
     for pair in 0..pairs {
         check_pair::<R>(bytes, lines, pairs, pair)?;
@@ -76,7 +76,7 @@ fn check_pairs<R: Row>(bytes: &[u8], lines: usize, pairs: usize) -> Result<(), F
 
 // The number of pairs that a file states, where its head and its length are right for a book of `lines` lines.
 fn check_head<R: Row>(bytes: &[u8], lines: usize) -> Result<usize, FileFault>
-    ensures { λ r. ⌜ «Tells-head» (R·Row .format) lines (now (bytes .entry)) r ⌝ }
+    ensures { λ r. ⌜ Tells-head (R·Row .format) lines (now (bytes .entry)) r ⌝ }
 {
     if bytes.len() < HEAD {
         let cause = FileCause::Short;

@@ -1,6 +1,5 @@
 // What is wrong with a book file, and where.
 ghost use mathlib.Core.Path.{_≡_};
-ghost use Prim.Native.Nat.{_≤_};
 ghost use Rattle.bookfile.specs.Faults.{number, inner, at};
 ghost use Rattle.bookfile.specs.declared.fault.FileCause.the-variants.{Value};
 use survey::fault::ValueFault;

@@ -3,7 +3,7 @@ ghost use denote.Ref.{now};
 ghost use lib.ListN.{length, set};
 ghost use mathlib.Core.Path.{_≡_};
 ghost use Prim.Native.Nat.{_≤_, _<_};
-ghost use Rattle.bookfile.specs.Files.{«file-size», «line-of», «row-of»};
+ghost use Rattle.bookfile.specs.Files.{file-size, line-of, row-of};
 ghost use Rattle.bookfile.specs.Loads.{loaded, Loads};
 ghost use Rattle.bookfile.specs.Meanings.{Exactly};
 use crate::bytes::row_at;
@@ -17,8 +17,8 @@ use survey::row::Row;
 
 // Writes one pair to its line, where the book has that line.
 fn load_pair<R: Row, B: Book<Value = R>>(bytes: &[u8], pairs: usize, pair: usize, book: &mut B)
-    requires { ⌜ pairs ≤ 4096 ⌝ ∗ ⌜ pair < pairs ⌝ ∗ ⌜ length (now bytes) ≡ «file-size» (R·Row .format) pairs ⌝ }
-    ensures { λ _. ⌜ B·Book .lines (now (book .exit)) ≡ set (B·Book .lines (now (book .entry))) («line-of» (now (bytes .entry)) pair) («row-of» (R·Row .format) pairs (now (bytes .entry)) pair) ⌝ }
+    requires { ⌜ pairs ≤ 4096 ⌝ ∗ ⌜ pair < pairs ⌝ ∗ ⌜ length (now bytes) ≡ file-size (R·Row .format) pairs ⌝ }
+    ensures { λ _. ⌜ B·Book .lines (now (book .exit)) ≡ set (B·Book .lines (now (book .entry))) (line-of (now (bytes .entry)) pair) (row-of (R·Row .format) pairs (now (bytes .entry)) pair) ⌝ }
 {
     let line = two_at(bytes, line_place::<R>(pairs, pair));
     let row = row_at::<R>(bytes, value_place::<R>(pairs, pair));
@@ -26,7 +26,7 @@ fn load_pair<R: Row, B: Book<Value = R>>(bytes: &[u8], pairs: usize, pair: usize
 }
 
 fn load_pairs<R: Row, B: Book<Value = R>>(bytes: &[u8], pairs: usize, book: &mut B)
-    requires { ⌜ pairs ≤ 4096 ⌝ ∗ ⌜ length (now bytes) ≡ «file-size» (R·Row .format) pairs ⌝ }
+    requires { ⌜ pairs ≤ 4096 ⌝ ∗ ⌜ length (now bytes) ≡ file-size (R·Row .format) pairs ⌝ }
     ensures { λ _. ⌜ B·Book .lines (now (book .exit)) ≡ loaded (R·Row .format) pairs (now (bytes .entry)) 0 pairs (B·Book .lines (now (book .entry))) ⌝ }
 {
     for pair in 0..pairs {

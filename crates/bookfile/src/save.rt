@@ -6,8 +6,8 @@ ghost use mathlib.Core.Path.{_≡_};
 ghost use Prim.Native.Nat.{ℕ, _+_, _*_, _≤_, _<_};
 ghost use Rattle.std.specs.Joined.{joined};
 ghost use Rattle.std.specs.Vec.{made};
-ghost use Rattle.survey.specs.Bytes.{pasted, «two-bytes»};
-ghost use Rattle.bookfile.specs.Faults.{«save-number»};
+ghost use Rattle.survey.specs.Bytes.{pasted, two-bytes};
+ghost use Rattle.bookfile.specs.Faults.{save-number};
 ghost use Rattle.bookfile.specs.Files.{file-size};
 ghost use Rattle.bookfile.specs.Saves.{numbers, value-bytes, file-of, Saves, Puts-front, Keeps-lines};
 use crate::layout::HEAD;
@@ -25,7 +25,7 @@ pub enum SaveRefusal {
 impl SaveRefusal {
     // The number by which the refusal is printed.
     pub fn number(self) -> u32
-        ensures { λ r. ⌜ r ≡ «save-number» self ⌝ }
+        ensures { λ r. ⌜ r ≡ save-number self ⌝ }
     {
         match self {
             SaveRefusal::ShortOutput => 36,
@@ -36,7 +36,7 @@ impl SaveRefusal {
 // n and m, which are equal, since each line is a pair.
 fn put_head(out: &mut [u8], lines: usize)
     requires { ⌜ lines ≤ 1024 ⌝ ∗ ⌜ 4 ≤ length (now out) ⌝ }
-    ensures { λ _. ⌜ now (out .exit) ≡ pasted (now (out .entry)) 0 («two-bytes» lines ++ «two-bytes» lines) ⌝ }
+    ensures { λ _. ⌜ now (out .exit) ≡ pasted (now (out .entry)) 0 (two-bytes lines ++ two-bytes lines) ⌝ }
 {
     let [low, high] = (lines as u16).to_le_bytes();
     let _ = put(out, 0, &[low, high, low, high]);
@@ -44,7 +44,7 @@ fn put_head(out: &mut [u8], lines: usize)
 
 fn put_number(out: &mut [u8], place: usize, line: usize)
     requires { ⌜ line ≤ 1024 ⌝ ∗ ⌜ place + 2 ≤ length (now out) ⌝ }
-    ensures { λ _. ⌜ now (out .exit) ≡ pasted (now (out .entry)) place («two-bytes» line) ⌝ }
+    ensures { λ _. ⌜ now (out .exit) ≡ pasted (now (out .entry)) place (two-bytes line) ⌝ }
 {
     let _ = put(out, place, &(line as u16).to_le_bytes());
 }

@@ -1,5 +1,4 @@
 // Bytes written into lent memory.
-ghost use mathlib.Core.Path.{_≡_};
 ghost use Rattle.survey.specs.Bytes.{Puts};
 
 // Writes `bytes` into `out` from `place` on and answers the place behind them; writes nothing where they do not fit.

@@ -4,7 +4,7 @@ ghost use mathlib.Core.Path.{_≡_};
 ghost use Prim.Native.Nat.{ℕ};
 ghost use Rattle.std.specs.declared.option.Option.the-variants.{Some};
 ghost use Rattle.survey.specs.Bytes.{Puts};
-ghost use Rattle.survey.specs.Formats.{Format, Sound, Checks, Decodes, «or-blank»};
+ghost use Rattle.survey.specs.Formats.{Format, Sound, Checks, Decodes, or-blank};
 use crate::fault::ValueFault;
 use std::fmt;
 
@@ -47,7 +47,7 @@ pub trait Row: Copy {
 
     // The value that a row counts as wherever one is asked for: its own, or the blank where it is outside the ranges.
     fn or_blank(self) -> Self::Value
-        ensures { λ r. ⌜ plain r ≡ «or-blank» format self ⌝ }
+        ensures { λ r. ⌜ plain r ≡ or-blank format self ⌝ }
     {
         match self.check() {
             Ok(value) => value,

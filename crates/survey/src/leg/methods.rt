@@ -1,11 +1,9 @@
 // How legs are made, read, printed and laid in bytes.
 ghost use mathlib.Core.Path.{_≡_};
-ghost use mathlib.Core.List.{List, _++_};
-ghost use Prim.Native.Nat.{ℕ, _≤_};
+ghost use Prim.Native.Nat.{_≤_};
 ghost use Rattle.std.specs.declared.option.Option.the-variants.{Some};
-ghost use Rattle.survey.specs.Bytes.{Puts};
-ghost use Rattle.survey.specs.Formats.{Format, Checks, Decodes};
-ghost use Rattle.survey.specs.Legs.{«leg-row», «leg-format», «leg-text»};
+ghost use Rattle.survey.specs.Formats.{Format, Checks};
+ghost use Rattle.survey.specs.Legs.{leg-row, leg-format, leg-text};
 use super::Leg;
 use super::LegRow;
 use crate::bytes::put;
@@ -26,7 +24,7 @@ pub const OPEN: u8 = 1;
 impl Leg {
     // The leg of four numbers, or the first range that they break: a station, the length, the passage.
     pub fn new(from: u32, to: u32, passage: u32, length: u32) -> Result<Leg, ValueFault>
-        ensures { λ r. ⌜ Checks «leg-format» (λ l. l .row) («leg-row» from to passage length) r ⌝ }
+        ensures { λ r. ⌜ Checks leg-format (λ l. l .row) (leg-row from to passage length) r ⌝ }
     {
         if from > LAST_STATION || to > LAST_STATION {
             return Err(ValueFault::Station);
@@ -79,7 +77,7 @@ impl Leg {
 pub impl Row for LegRow as LegRowRow {
     type Value = Leg;
 
-    ghost format = { «leg-format» };
+    ghost format = { leg-format };
 
     ghost plain = { λ l. l .row };
 
@@ -134,7 +132,7 @@ pub impl Row for LegRow as LegRowRow {
 
 // From, to, passage and length, with a space between.
 pub impl fmt::Display for Leg as LegDisplay {
-    ghost shown = { λ l. Some («leg-text» (l .row)) };
+    ghost shown = { λ l. Some (leg-text (l .row)) };
 
     fn fmt<W: fmt::Write>(&self, f: &mut fmt::Formatter<W>) -> fmt::Result {
         let LegRow {

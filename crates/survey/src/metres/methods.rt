@@ -1,11 +1,9 @@
 // How metres are made, read, printed and laid in bytes.
 ghost use mathlib.Core.Path.{_≡_};
-ghost use mathlib.Core.List.{List, _++_};
-ghost use Prim.Native.Nat.{ℕ, _≤_};
+ghost use Prim.Native.Nat.{_≤_};
 ghost use Rattle.std.specs.declared.option.Option.the-variants.{Some};
-ghost use Rattle.survey.specs.Bytes.{Puts};
-ghost use Rattle.survey.specs.Formats.{Format, Checks, Decodes};
-ghost use Rattle.survey.specs.Ropes.{«metres-format», «metres-text»};
+ghost use Rattle.survey.specs.Formats.{Format};
+ghost use Rattle.survey.specs.Ropes.{metres-format, metres-text};
 use super::Metres;
 use super::MetresRow;
 use crate::bytes::put;
@@ -29,7 +27,7 @@ impl Metres {
 pub impl Row for MetresRow as MetresRowRow {
     type Value = Metres;
 
-    ghost format = { «metres-format» };
+    ghost format = { metres-format };
 
     ghost plain = { λ m. m .row };
 
@@ -70,7 +68,7 @@ pub impl Row for MetresRow as MetresRowRow {
 }
 
 pub impl fmt::Display for Metres as MetresDisplay {
-    ghost shown = { λ m. Some («metres-text» (m .row)) };
+    ghost shown = { λ m. Some (metres-text (m .row)) };
 
     fn fmt<W: fmt::Write>(&self, f: &mut fmt::Formatter<W>) -> fmt::Result {
         let count = self.count();

@@ -1,6 +1,6 @@
 use mathlib.Core.Path.{ap, _∙_}
 use Prim.Native.Nat.{_+_}
-use Rattle.book.specs.Books.{part}
+use Rattle.book.specs.Chapters.{part}
 use Rattle.book.proofs.Parts.{part-of-part}
 use Rattle.book.proofs.chapter.Chapter.part_extent.Needs as need
 
