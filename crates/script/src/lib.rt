@@ -1,2 +1,3 @@
 // The turn list, read where it lies, and the listing's bytes.
 pub mod listing;
+pub mod number;
