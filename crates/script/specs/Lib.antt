@@ -1,2 +1,5 @@
+pub mod Cuts
+pub mod Letters
 pub mod Listing
 pub mod Numbers
+pub mod Words

@@ -1,3 +1,5 @@
 // The turn list, read where it lies, and the listing's bytes.
+pub mod letter;
 pub mod listing;
 pub mod number;
+pub mod word;
