@@ -1,3 +1,5 @@
 pub mod Decimals
+pub mod Fronts
 pub mod Letters
 pub mod Numbers
+pub mod Parts

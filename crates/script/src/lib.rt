@@ -2,4 +2,5 @@
 pub mod letter;
 pub mod listing;
 pub mod number;
+pub mod reader;
 pub mod word;
