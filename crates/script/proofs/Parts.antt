@@ -14,13 +14,13 @@ use Rattle.script.specs.Cuts.{onto, cut, words, lines-of, front}
 use Rattle.script.specs.Readers.{words-from}
 
 -- what follows the first part: the parts behind its separator, or, without one, what `none` has behind its first
-rest : ℕ → List (List ℕ) → List ℕ → List (List ℕ)
+pub rest : ℕ → List (List ℕ) → List ℕ → List (List ℕ)
 rest s none [] = []
 rest s none (b ∷ bs) = cond (eqb b s) (cut s none bs) (rest s none bs)
 
 module _ (s : ℕ) where
   -- at words no bytes are one empty part, at lines none
-  word-step : (bs : List ℕ) → cut s ([] ∷ []) bs ≡ front s bs ∷ rest s ([] ∷ []) bs
+  pub word-step : (bs : List ℕ) → cut s ([] ∷ []) bs ≡ front s bs ∷ rest s ([] ∷ []) bs
   unfolding cut front rest
   word-step [] = refl
   word-step (b ∷ bs) =

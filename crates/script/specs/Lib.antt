@@ -1,6 +1,9 @@
+pub mod Commands
 pub mod Cuts
+pub mod Faults
 pub mod Letters
 pub mod Listing
 pub mod Numbers
 pub mod Readers
+pub mod Reading
 pub mod Words

@@ -1,4 +1,6 @@
 // The turn list, read where it lies, and the listing's bytes.
+pub mod command;
+pub mod fault;
 pub mod letter;
 pub mod listing;
 pub mod number;
