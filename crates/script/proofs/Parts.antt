@@ -34,7 +34,7 @@ module _ (s : ℕ) where
       elim (eqb c s) as (λ t. onto b (cond t ([] ∷ cut s [] bs) (onto c (cut s [] bs))) ≡ (b ∷ cond t [] (c ∷ front s bs)) ∷ cond t (cut s [] bs) (rest s [] bs))
       [ true ↦ refl | false ↦ ap (onto b) (onto-lines c bs) ]
 
-  line-step : (bs : List ℕ) → 0 < length bs → cut s [] bs ≡ front s bs ∷ rest s [] bs
+  pub line-step : (bs : List ℕ) → 0 < length bs → cut s [] bs ≡ front s bs ∷ rest s [] bs
   unfolding cut front rest
   line-step [] h = absurd (omega arith)
   line-step (b ∷ bs) h =

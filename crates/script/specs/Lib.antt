@@ -6,4 +6,5 @@ pub mod Listing
 pub mod Numbers
 pub mod Readers
 pub mod Reading
+pub mod Shown
 pub mod Words

@@ -7,11 +7,12 @@ ghost use lib.ListN.{length};
 ghost use Rattle.std.specs.declared.result.Result.the-variants.{Ok, Err};
 ghost use Rattle.script.specs.declared.fault.LineCause.the-variants.{WordCount};
 ghost use Rattle.script.specs.Commands.{called, line-says};
-ghost use Rattle.script.specs.Cuts.{words};
+ghost use Rattle.script.specs.Cuts.{words, Words-of-line};
 ghost use Rattle.script.specs.Faults.{fault-at};
 ghost use Rattle.script.specs.Letters.{numbers-after};
 ghost use Rattle.script.specs.Reading.{numbers-left, Next-number, First-letter};
 ghost use Rattle.script.specs.Readers.{words-left};
+ghost use Rattle.script.specs.Shown.{Told, Reads-back};
 use crate::fault::LineCause;
 use crate::fault::LineFault;
 use crate::letter::Letter;
@@ -112,7 +113,7 @@ fn call_of(letter: Letter, words: &mut Reader) -> Result<Call, LineFault>
     }
 }
 
-// The call that a line is, or what is wrong with it first, and where.
+// The letter, the count of words, and the numbers: the first that fails is the fault.
 fn read_call(line: &[u8]) -> Result<Call, LineFault>
     ensures { λ r. ⌜ r ≡ line-says (now (line .entry)) ⌝ }
 {
@@ -120,4 +121,15 @@ fn read_call(line: &[u8]) -> Result<Call, LineFault>
     let letter = first_letter(&mut words)?;
     check_count(line, letter)?;
     call_of(letter, &mut words)
+}
+
+// The call that a line is, or what is wrong with it first, and where.
+// A line is a call exactly if it is what the call shows.
+pub fn call_in(line: &[u8]) -> Result<Call, LineFault>
+    ensures says { λ r. ⌜ r ≡ line-says (now (line .entry)) ⌝ }
+    ensures told { λ r. ⌜ Told (now (line .entry)) r ⌝ }
+    ensures reads_back { λ _. ⌜ Reads-back ⌝ }
+    ensures words { λ _. ⌜ Words-of-line (now (line .entry)) (words (now (line .entry))) ⌝ }
+{
+    read_call(line)
 }
