@@ -7,4 +7,5 @@ pub mod Numbers
 pub mod Readers
 pub mod Reading
 pub mod Shown
+pub mod Turns
 pub mod Words

@@ -2,7 +2,9 @@
 pub mod command;
 pub mod fault;
 pub mod letter;
+pub mod list;
 pub mod listing;
 pub mod number;
 pub mod reader;
+pub mod turns;
 pub mod word;

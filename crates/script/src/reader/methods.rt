@@ -1,7 +1,7 @@
 // Lines of a list and words of a line, one by one.
 ghost use mathlib.Core.Path.{_≡_};
 ghost use mathlib.Core.List.{_∷_};
-ghost use Prim.Native.Nat.{_+_, _≤_, _<_};
+ghost use Prim.Native.Nat.{_+_, _^_, _≤_, _<_};
 ghost use lib.ListN.{length, drop};
 ghost use Rattle.script.specs.Cuts.{front};
 ghost use Rattle.script.specs.Readers.{text, lines-left, words-left, Past, Next-line, Next-word};
@@ -34,6 +34,7 @@ impl<'a> Reader<'a> {
     fn part(&mut self, separator: u8) -> &'a [u8]
         requires { ⌜ now self .place ≤ length (text (now self)) ⌝ }
         ensures past { λ r. ⌜ Past (now (self .entry)) (length (now r)) (now (self .exit)) ⌝ }
+        ensures bound { λ _. ⌜ now (self .exit) .place < 2 ^ 64 ⌝ }
         ensures line { λ r. ⌜ (separator ≡ 10 → now (self .entry) .place < length (text (now (self .entry))) → lines-left (now (self .entry)) ≡ now r ∷ lines-left (now (self .exit))) ⌝ }
         ensures word { λ r. ⌜ (separator ≡ 32 → words-left (now (self .entry)) ≡ now r ∷ words-left (now (self .exit))) ⌝ }
     {
@@ -45,7 +46,8 @@ impl<'a> Reader<'a> {
 
     // The next line, without its newline.
     pub fn line(&mut self) -> Option<&'a [u8]>
-        ensures { λ r. ⌜ Next-line (now (self .entry)) (now (self .exit)) r ⌝ }
+        ensures next { λ r. ⌜ Next-line (now (self .entry)) (now (self .exit)) r ⌝ }
+        ensures bound { λ _. ⌜ now (self .exit) .place < 2 ^ 64 ⌝ }
     {
         if self.place >= self.bytes.len() {
             return None;
