@@ -1,4 +1,5 @@
 // The turn list, read where it lies, and the listing's bytes.
+pub mod call_line;
 pub mod command;
 pub mod fault;
 pub mod letter;
