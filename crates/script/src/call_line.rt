@@ -2,12 +2,10 @@
 ghost use Rattle.std.specs.declared.option.Option.the-variants.{Some};
 ghost use Rattle.script.specs.Shown.{call-bytes};
 use calls::call::Call;
-use calls::call::CallDebug;
-use calls::call::CallPartialEq;
 use std::fmt;
 
 // The line that is read as this call, without its newline.
-#[derive(Clone, Copy, Debug, PartialEq, Eq)]
+#[derive(Clone, Copy)]
 pub struct CallLine(pub Call);
 
 pub impl fmt::Display for CallLine as CallLineDisplay {

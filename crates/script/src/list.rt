@@ -7,7 +7,7 @@ use crate::fault::MOST_BYTES;
 use crate::turns::Turns;
 
 // The bytes of a list that is not too long.
-#[derive(Clone, Copy, Debug)]
+#[derive(Clone, Copy)]
 pub struct TurnList<'a> {
     bytes: &'a [u8],
 }

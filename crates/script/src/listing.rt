@@ -1,22 +1,15 @@
 // The lines of a listing. Each shows with its newline.
 ghost use Rattle.std.specs.Options.{mapped};
 ghost use Rattle.std.specs.declared.option.Option.the-variants.{Some};
-ghost use mathlib.Core.List.{[], _∷_};
-ghost use Rattle.script.specs.Letters.{letter-byte};
 ghost use Rattle.script.specs.Listing.{look-line, fault-line, answer-bytes, listing-line};
 use crate::letter::Letter;
-use crate::letter::LetterDebug;
-use crate::letter::LetterPartialEq;
+use crate::letter::LetterDisplay;
 use calls::answer::Answer;
-use calls::answer::AnswerDebug;
-use calls::answer::AnswerPartialEq;
 use calls::refusal::Refusal;
-use calls::refusal::RefusalDebug;
-use calls::refusal::RefusalPartialEq;
 use std::fmt;
 
 // A line of a book, with the value that it holds.
-#[derive(Clone, Copy, Debug, PartialEq, Eq)]
+#[derive(Clone, Copy)]
 pub struct LookLine<V> {
     pub line: usize,
     pub value: V,
@@ -54,19 +47,6 @@ pub impl fmt::Display for Fault as FaultDisplay {
     }
 }
 
-pub impl fmt::Display for Letter as LetterDisplay {
-    ghost shown = { λ l. Some (letter-byte l ∷ []) };
-
-    fn fmt<W: fmt::Write>(&self, f: &mut fmt::Formatter<W>) -> fmt::Result {
-        match *self {
-            Letter::Start => write!(f, "S"),
-            Letter::Step => write!(f, "T"),
-            Letter::Withdraw => write!(f, "W"),
-            Letter::Look => write!(f, "L"),
-        }
-    }
-}
-
 // The words of an answer, inside a line.
 #[derive(Clone, Copy)]
 struct AnswerWords(Answer);
@@ -85,7 +65,7 @@ impl fmt::Display for AnswerWords as AnswerWordsDisplay {
 }
 
 // What came of one line of a turn list.
-#[derive(Clone, Copy, Debug, PartialEq, Eq)]
+#[derive(Drop)]
 pub enum ListingLine<V> {
     // A job took the seat.
     Started {

@@ -1,11 +1,10 @@
 // The words of a line, by their kind.
 ghost use Rattle.script.specs.Words.{Is-word};
 use crate::letter::Letter;
-use crate::letter::LetterDebug;
 use crate::number::number;
 
 // A part of a line, with its place in the line and what it is.
-#[derive(Clone, Copy, Debug)]
+#[derive(Clone, Copy)]
 pub enum Word<'a> {
     Letter {
         bytes: &'a [u8],
@@ -25,7 +24,7 @@ pub enum Word<'a> {
 
 impl<'a> Word<'a> {
     // The word that these bytes are, found at this place.
-    pub fn new(bytes: &'a [u8], place: usize) -> Word<'a>
+    pub(crate) fn new(bytes: &'a [u8], place: usize) -> Word<'a>
         ensures { λ r. ⌜ Is-word (now (bytes .entry)) place r ⌝ }
     {
         if let Some(letter) = Letter::of_word(bytes) {
