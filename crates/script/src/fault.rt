@@ -56,7 +56,7 @@ pub enum ListFault {
 
 impl ListFault {
     // The number that users see.
-    pub fn number(self) -> u32
+    fn number(self) -> u32
         ensures { λ r. ⌜ r ≡ list-fault-number self ⌝ }
     {
         match self {

@@ -15,10 +15,11 @@ fn digits_value(word: &[u8]) -> Option<u64>
 {
     let mut number: u64 = 0;
     for byte in word {
-        match *byte {
-            b'0'..=b'9' => number = number * 10 + (*byte - b'0') as u64,
-            _ => return None,
+        let digit = *byte;
+        if digit < b'0' || digit > b'9' {
+            return None;
         }
+        number = number * 10 + (digit - b'0') as u64;
     }
     Some(number)
 }
