@@ -77,7 +77,7 @@ free-cut s none h (b ∷ bs) =
 
 pub words-of-line : (line : List ℕ) → Words-of-line line (words line)
 unfolding all-free free
-words-of-line line = record { together = joined-words 32 line; apart = free-cut 32 ([] ∷ []) refl line }
+words-of-line line = record { together = joined-words 32 line; apart = free-cut 32 ([] ∷ []) refl line; some = omega (arith, ap length (word-step 32 line)) }
 
 pub lines-of-bytes : (bytes : List ℕ) → Lines-of-bytes bytes (lines-of bytes)
 unfolding all-free

@@ -2,8 +2,9 @@
 use mathlib.Core.Path.{_≡_}
 use mathlib.Core.Bool.{Bool, true, cond, not, _&&_}
 use mathlib.Core.List.{List, [], _∷_, _++_}
-use Prim.Native.Nat.{ℕ}
+use Prim.Native.Nat.{ℕ, _<_}
 use lib.Dec.{eqb}
+use lib.ListN.{length}
 
 -- a byte in front of the first part
 abbrev pub onto : ℕ → List (List ℕ) → List (List ℕ)
@@ -59,7 +60,8 @@ pub record Lines-of-bytes (bytes : List ℕ) (lines : List (List ℕ)) : Type 0 
   pub together : ended-by 10 lines ≡ closed-by 10 bytes
   pub apart : all-free 10 lines ≡ true
 
--- the words, with a space between each two, are the line
+-- the words, with a space between each two, are the line, and there is at least one
 pub record Words-of-line (line : List ℕ) (ws : List (List ℕ)) : Type 0 where
   pub together : joined-by 32 ws ≡ line
   pub apart : all-free 32 ws ≡ true
+  pub some : 0 < length ws

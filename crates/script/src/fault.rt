@@ -49,7 +49,7 @@ impl LineFault {
 }
 
 // What is wrong with a whole list.
-#[derive(Clone, Copy, Debug, PartialEq, Eq)]
+#[derive(Clone, Copy, Debug)]
 pub enum ListFault {
     TooLong,
 }

@@ -8,7 +8,6 @@ use script::call_line::CallLine;
 use script::call_line::CallLineDisplay;
 use script::command::call_in;
 use script::fault::LineFaultDebug;
-use script::fault::ListFaultDebug;
 use script::fault::ListFaultIntoFault;
 use script::letter::Letter;
 use script::letter::LetterDisplay;
