@@ -15,7 +15,7 @@ use Rattle.script.specs.declared.letter.Letter.{Letter}
 use Rattle.script.specs.declared.fault.LineFault.{LineFault}
 use Rattle.script.specs.declared.fault.LineCause.the-variants.{WordCount}
 use Rattle.script.specs.declared.reader.Reader.{Reader}
-use Rattle.script.specs.Commands.{called, from-letter, line-says}
+use Rattle.script.specs.Commands.{counted, called, from-letter, line-says}
 use Rattle.script.specs.Cuts.{words}
 use Rattle.script.specs.Faults.{fault-at}
 use Rattle.script.specs.Letters.{numbers-after}
@@ -47,7 +47,7 @@ module _ (line : List ℕ) (r : Reader) (start : r .place ≡ 0) (same : text r 
   pub no-letter : (s : Reader) (f : LineFault) → First-letter r s (Err f) → Err f ≡ line-says line
   no-letter s f none = sym (from-here ∙ none (length line))
 
-  module _ (s : Reader) (l : Letter) (first : First-letter r s (Ok l)) (o : Result (Unit {0}) LineFault) (weighed : o ≡ cond (eqb (length (words line)) (numbers-after l + 1)) (Ok tt) (Err (fault-at (length line) WordCount))) where
+  module _ (s : Reader) (l : Letter) (first : First-letter r s (Ok l)) (o : Result (Unit {0}) LineFault) (weighed : o ≡ counted line l) where
     counts : length (words line) ≡ length (words-left s) + 1
     counts = sym (ap length all-words) ∙ first .1
 

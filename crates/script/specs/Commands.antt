@@ -25,6 +25,7 @@ abbrev pub in-front : ℕ → Result (List ℕ) LineFault → Result (List ℕ) 
 in-front n (Ok ns) = Ok (n ∷ ns)
 in-front n (Err f) = Err f
 
+-- a word at a place, in front of others: the number that it is, if it is one
 abbrev pub first-number : ℕ → Option ℕ → Result (List ℕ) LineFault → Result (List ℕ) LineFault
 first-number place None others = Err (fault-at place NotNumber)
 first-number place (Some n) others = in-front n others
@@ -41,9 +42,14 @@ call-of letter.Step ns = call.Step (getD ns 0 0)
 call-of letter.Withdraw ns = call.Withdraw (getD ns 0 0)
 call-of letter.Look ns = call.Look (getD ns 0 0)
 
+-- the same, unless one of the words is no number
 abbrev pub called : Letter → Result (List ℕ) LineFault → Result Call LineFault
 called l (Ok ns) = Ok (call-of l ns)
 called l (Err f) = Err f
+
+-- whether a line has a word for its letter and one for each number after it
+abbrev pub counted : List ℕ → Letter → Result (Unit {0}) LineFault
+counted line l = cond (eqb (length (words line)) (numbers-after l + 1)) (Ok tt) (Err (fault-at (length line) WordCount))
 
 -- of a line of n bytes: its letter, and the words after it, from a place on. Words are counted before any is weighed
 abbrev pub after-letter : ℕ → Option Letter → ℕ → List (List ℕ) → Result Call LineFault

@@ -51,6 +51,7 @@ unfoldable pub free : ℕ → List ℕ → Bool
 free s [] = true
 free s (b ∷ bs) = not (eqb b s) && free s bs
 
+-- and none in any part
 unfoldable pub all-free : ℕ → List (List ℕ) → Bool
 all-free s [] = true
 all-free s (part ∷ parts) = free s part && all-free s parts

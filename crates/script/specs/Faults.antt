@@ -7,6 +7,7 @@ use Rattle.script.specs.declared.fault.ListFault.{ListFault}
 use Rattle.script.specs.declared.fault.ListFault.the-variants.{TooLong}
 use Rattle.script.specs.declared.listing.Fault.{Fault}
 
+-- the numbers that users see
 abbrev pub line-cause-number : LineCause → ℕ
 line-cause-number UnknownLetter = 21
 line-cause-number NotNumber = 22
@@ -19,6 +20,7 @@ list-fault-number TooLong = 24
 abbrev pub most-bytes : ℕ
 most-bytes = 60000
 
+-- a fault at a place of its line
 abbrev pub fault-at : ℕ → LineCause → LineFault
 fault-at p c = record { place = p; cause = c }
 

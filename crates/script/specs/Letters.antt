@@ -15,6 +15,7 @@ letter-byte Step = 84
 letter-byte Withdraw = 87
 letter-byte Look = 76
 
+-- the letter that a byte is
 abbrev pub letter-named : ℕ → Option Letter
 letter-named b =
     cond (eqb b 83) (Some Start) (cond (eqb b 84) (Some Step) (cond (eqb b 87) (Some Withdraw) (cond (eqb b 76) (Some Look) None)))

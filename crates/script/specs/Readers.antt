@@ -17,6 +17,7 @@ use Rattle.script.specs.Words.{word-bytes, Is-word}
 abbrev pub text : Reader → List ℕ
 text r = r .bytes .now
 
+-- the bytes to come
 abbrev pub left : Reader → List ℕ
 left r = drop (r .place) (text r)
 
@@ -37,6 +38,7 @@ pub record Past (r : Reader) (n : ℕ) (s : Reader) : Type 0 where
   pub place : s .place ≡ r .place + n + 1
   pub same : text s ≡ text r
 
+-- s is r, and nothing was read
 abbrev pub Unmoved : Reader → Reader → Type 0
 Unmoved r s = (s .place ≡ r .place) × (text s ≡ text r)
 

@@ -26,6 +26,7 @@ call-bytes (Step seat) = codes "T " ++ decimal seat
 call-bytes (Withdraw seat) = codes "W " ++ decimal seat
 call-bytes (Look line) = codes "L " ++ decimal line
 
+-- its numbers, in their order
 abbrev pub call-numbers : Call → List ℕ
 call-numbers (Start seat o) = seat ∷ o .kind ∷ o .a ∷ o .b ∷ o .c ∷ o .d ∷ []
 call-numbers (Step seat) = seat ∷ []

@@ -14,6 +14,7 @@ word-bytes (word.Letter bytes place letter) = bytes .now
 word-bytes (word.Number bytes place number) = bytes .now
 word-bytes (word.Other bytes place) = bytes .now
 
+-- where the word stands in its line
 abbrev pub word-place : Word → ℕ
 word-place (word.Letter bytes place letter) = place
 word-place (word.Number bytes place number) = place

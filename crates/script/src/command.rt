@@ -1,14 +1,9 @@
 // The call that a line of a turn list is.
 ghost use mathlib.Core.Path.{_≡_};
-ghost use mathlib.Core.Bool.{cond};
-ghost use Prim.Native.Nat.{_+_, _<_};
-ghost use lib.Dec.{eqb};
+ghost use Prim.Native.Nat.{_<_};
 ghost use lib.ListN.{length};
-ghost use Rattle.std.specs.declared.result.Result.the-variants.{Ok, Err};
-ghost use Rattle.script.specs.declared.fault.LineCause.the-variants.{WordCount};
-ghost use Rattle.script.specs.Commands.{called, line-says};
+ghost use Rattle.script.specs.Commands.{counted, called, line-says};
 ghost use Rattle.script.specs.Cuts.{words, Words-of-line};
-ghost use Rattle.script.specs.Faults.{fault-at};
 ghost use Rattle.script.specs.Letters.{numbers-after};
 ghost use Rattle.script.specs.Reading.{numbers-left, Next-number, First-letter};
 ghost use Rattle.script.specs.Readers.{words-left};
@@ -36,7 +31,7 @@ fn count_words(line: &[u8]) -> usize
 
 // Whether the line has a word for its letter and for each number after it.
 fn check_count(line: &[u8], letter: Letter) -> Result<(), LineFault>
-    ensures { λ r. ⌜ r ≡ cond (eqb (length (words (now (line .entry)))) (numbers-after letter + 1)) (Ok tt) (Err (fault-at (length (now (line .entry))) WordCount)) ⌝ }
+    ensures { λ r. ⌜ r ≡ counted (now (line .entry)) letter ⌝ }
 {
     if count_words(line) != letter.number_count() + 1 {
         return Err(LineFault {
