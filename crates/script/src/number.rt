@@ -28,7 +28,7 @@ fn digits_value(word: &[u8]) -> Option<u64>
 fn checked_value(word: &[u8]) -> Option<u32>
     ensures { λ r. ⌜ r ≡ number-of (now (word .entry)) ⌝ }
 {
-    if word.len() < 1 || word.len() > MOST_DIGITS {
+    if word.is_empty() || word.len() > MOST_DIGITS {
         return None;
     }
     if word[0] == b'0' && word.len() > 1 {
