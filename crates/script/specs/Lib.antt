@@ -1,2 +1,12 @@
+pub mod Commands
+pub mod Cuts
+pub mod Faults
+pub mod Letters
 pub mod Listing
 pub mod BookFaults
+pub mod Numbers
+pub mod Readers
+pub mod Reading
+pub mod Shown
+pub mod Turns
+pub mod Words

@@ -1,0 +1,10 @@
+pub mod Counts
+pub mod Decimals
+pub mod Fronts
+pub mod Going
+pub mod Joins
+pub mod Letters
+pub mod Numbers
+pub mod Opening
+pub mod Parts
+pub mod Told

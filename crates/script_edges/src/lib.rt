@@ -1,0 +1,3 @@
+// Turn lists and listings at their edges.
+#[cfg(test)]
+mod tests;
