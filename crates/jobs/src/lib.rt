@@ -1,0 +1,4 @@
+// Families of jobs, and jobs done alone.
+pub mod beside;
+pub mod family;
+pub mod request;
