@@ -9,13 +9,10 @@ use Rattle.std.specs.Finite.{nth}
 use Rattle.std.specs.declared.option.Option.{Option}
 use Rattle.std.specs.declared.option.Option.the-variants.{Some, None}
 use Rattle.calls.specs.declared.order.Order.{Order}
+use Rattle.jobs.specs.declared.written.Written.{Written}
 use Rattle.jobs.specs.declared.request.Request.{Request}
 use Rattle.jobs.specs.declared.request.Request.the-variants.{Read, Write, End}
 use Rattle.jobs.specs.Meanings.{Meaning}
-
-pub record Written (V : Type 0) : Type 0 where
-  pub line : ℕ
-  pub value : V
 
 module _ {V : Type 0} where
   -- the value of the newest write to a line

@@ -2,3 +2,5 @@
 pub mod beside;
 pub mod family;
 pub mod request;
+pub mod writes;
+pub mod written;
