@@ -1,3 +1,4 @@
 pub mod Meanings
 pub mod Alone
 pub mod Pairs
+pub mod Doing
