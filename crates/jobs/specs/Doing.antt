@@ -9,6 +9,8 @@ use Rattle.std.specs.Finite.{nth}
 use Rattle.std.specs.Of.Vec.{vec-items}
 use Rattle.std.specs.declared.option.Option.{Option}
 use Rattle.std.specs.declared.option.Option.the-variants.{Some, None}
+use Rattle.std.specs.declared.result.Result.{Result}
+use Rattle.std.specs.declared.result.Result.the-variants.{Ok, Err}
 use Rattle.calls.specs.declared.order.Order.{Order}
 use Rattle.calls.specs.declared.refusal.Refusal.the-variants.{NoLine, TooManyWrites}
 use Rattle.jobs.specs.declared.job.Job.{Job}
@@ -18,7 +20,7 @@ use Rattle.jobs.specs.declared.turn.Outcome.{Outcome}
 use Rattle.jobs.specs.declared.turn.Outcome.the-variants as outcome
 use Rattle.jobs.specs.declared.turn.Turn.{Turn}
 use Rattle.jobs.specs.declared.turn.Turn.the-variants.{Went, Stuck, Ended}
-use Rattle.jobs.specs.Alone.{Alone, Ends, newest, applied, or-else, turn, after-turns}
+use Rattle.jobs.specs.Alone.{Alone, Ends, newest, applied, or-else, begun, turn, after-turns}
 use Rattle.jobs.specs.Meanings.{Meaning}
 
 -- a job as the theory has it: its writes with the newest first
@@ -73,3 +75,8 @@ module _ {V S : Type 0} (m : Meaning V S) where
   Means o values budget (outcome.Ended code number) after = (e : Ends m o values code number after) × (e .count < budget)
   Means o values budget (outcome.Stuck refusal) after = ((k : ℕ) → Not-ending (after-turns m values k o)) × (after ≡ values)
   Means o values budget outcome.Spent after = ((k : ℕ) → k < budget → Not-ending (after-turns m values k o)) × (after ≡ values)
+
+  -- what comes of the order in so many turns, and the values after it; nothing where there is no memory
+  abbrev pub Does : {E : Type 0} → Order → ℕ → List V → List V → Result Outcome E → Type 0
+  Does o budget before after (Ok came) = (came ≡ done before budget (begun m o) .outcome) × (after ≡ done before budget (begun m o) .values)
+  Does o budget before after (Err e) = after ≡ before

@@ -2,8 +2,7 @@
 ghost use denote.Ref.{now};
 ghost use mathlib.Core.Path.{_≡_};
 ghost use Rattle.std.specs.Vec.{made};
-ghost use Rattle.jobs.specs.Alone.{begun};
-ghost use Rattle.jobs.specs.Doing.{alone, done, Means};
+ghost use Rattle.jobs.specs.Doing.{alone, done, Means, Does};
 use crate::family::Family;
 use crate::job::Job;
 use crate::turn::Outcome;
@@ -31,4 +30,33 @@ fn run<F: Family, B: Book<Value = F::Value>>(
         }
     }
     Outcome::Spent
+}
+
+// Starts the job of an order and gives it so many turns.
+fn start_and_run<F: Family, B: Book<Value = F::Value>>(
+    heap: Global,
+    family: &F,
+    book: &mut B,
+    order: Order,
+    turns: u32,
+) -> Result<Outcome, AllocError>
+    ensures done { λ r. ⌜ Does (F·Family .meaning (now (family .entry))) order turns (B·Book .lines (now (book .entry))) (B·Book .lines (now (book .exit))) r ⌝ }
+    ensures means { λ r. ⌜ made r (λ outcome. Means (F·Family .meaning (now (family .entry))) order (B·Book .lines (now (book .entry))) turns outcome (B·Book .lines (now (book .exit)))) ⌝ }
+{
+    let mut job = Job::start(heap, family, order)?;
+    Ok(run(&mut job, family, book, turns))
+}
+
+// Does the job of an order alone on a book, in so many turns at most; the book changes only if the job ends.
+pub fn do_alone<F: Family, B: Book<Value = F::Value>>(
+    heap: Global,
+    family: &F,
+    book: &mut B,
+    order: Order,
+    turns: u32,
+) -> Result<Outcome, AllocError>
+    ensures done { λ r. ⌜ Does (F·Family .meaning (now (family .entry))) order turns (B·Book .lines (now (book .entry))) (B·Book .lines (now (book .exit))) r ⌝ }
+    ensures means { λ r. ⌜ made r (λ outcome. Means (F·Family .meaning (now (family .entry))) order (B·Book .lines (now (book .entry))) turns outcome (B·Book .lines (now (book .exit)))) ⌝ }
+{
+    start_and_run(heap, family, book, order, turns)
 }
