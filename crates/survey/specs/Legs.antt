@@ -17,6 +17,10 @@ use Rattle.survey.specs.Formats.{Format}
 abbrev pub leg-row : ℕ → ℕ → ℕ → ℕ → LegRow
 leg-row from to passage length = record { from = from; to = to; passage = passage; length = length }
 
+-- the same leg, closed
+abbrev pub closed-row : LegRow → LegRow
+closed-row r = leg-row (r .from) (r .to) 0 (r .length)
+
 -- stations go to 15, then the length from 1 to 10,000,000, then the passage is 0 or 1
 abbrev pub leg-fault : LegRow → Option ValueFault
 leg-fault r =

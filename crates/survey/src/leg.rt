@@ -3,8 +3,10 @@ ghost use Prim.Native.Nat.{_≤_};
 
 mod methods;
 
+pub use methods::CLOSED;
 pub use methods::LegDisplay;
 pub use methods::LegRowRow;
+pub use methods::OPEN;
 
 // The plain numbers of a leg, with no promise about their ranges.
 #[derive(Clone, Copy, Debug, PartialEq, Eq)]

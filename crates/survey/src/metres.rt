@@ -3,6 +3,7 @@ ghost use Prim.Native.Nat.{_≤_};
 
 mod methods;
 
+pub use methods::MOST_METRES;
 pub use methods::MetresDisplay;
 pub use methods::MetresRowRow;
 

@@ -3,7 +3,7 @@ ghost use mathlib.Core.Path.{_≡_};
 ghost use Prim.Native.Nat.{_≤_};
 ghost use Rattle.std.specs.declared.option.Option.the-variants.{Some};
 ghost use Rattle.survey.specs.Formats.{Format, Checks};
-ghost use Rattle.survey.specs.Legs.{leg-row, leg-format, leg-text};
+ghost use Rattle.survey.specs.Legs.{leg-row, leg-format, leg-text, closed-row};
 use super::Leg;
 use super::LegRow;
 use crate::bytes::put;
@@ -63,6 +63,17 @@ impl Leg {
         ensures bound { λ r. ⌜ r ≤ 1 ⌝ }
     {
         self.row.passage
+    }
+
+    // The same leg, closed.
+    pub fn closed(&self) -> Leg
+        ensures { λ r. ⌜ r .row ≡ closed-row (now (self .entry) .row) ⌝ }
+    {
+        let row = LegRow {
+            passage: CLOSED,
+            ..self.row
+        };
+        Leg { row }
     }
 
     pub fn length(&self) -> u32
