@@ -1,3 +1,4 @@
 pub mod Entries
 pub mod Transfers
 pub mod Counts
+pub mod Laws

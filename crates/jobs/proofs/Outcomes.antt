@@ -23,6 +23,8 @@ use Rattle.jobs.specs.declared.turn.Turn.the-variants.{Went, Stuck, Ended}
 use Rattle.jobs.specs.Alone.{Alone, Ends, begun, turn, turn-at, turns, after-turns, applied, newest, or-else, take-in, join}
 use Rattle.jobs.specs.Doing.{answer, answer-at, left, left-at, went-if, Done, go-on, done, Not-ending, Means}
 use Rattle.jobs.specs.Meanings.{Meaning}
+use Rattle.jobs.proofs.Endings.{at, Before, next, never}
+use Rattle.jobs.proofs.Steps.{reading, writing}
 
 module _ {V S : Type 0} (m : Meaning V S) (values : List V) where
   -- a turn that went on left the values as they were
@@ -58,12 +60,6 @@ module _ {V S : Type 0} (m : Meaning V S) (values : List V) (a : Alone V S) wher
   Sort b after (Stuck r) = Not-ending m a × (b ≡ a) × (after ≡ values)
   Sort b after (Ended code number) = (m .request (a .state) ≡ End code number) × (after ≡ applied (a .writes) values)
 
-  reading : (l : ℕ) → m .request (a .state) ≡ Read l → Not-ending m a
-  reading l e code number f = let z : _≡_ {A = ℕ} 0 1 = cc in omega arith
-
-  writing : (l : ℕ) (v : V) → m .request (a .state) ≡ Write l v → Not-ending m a
-  writing l v e code number f = let z : _≡_ {A = ℕ} 0 1 = cc in omega arith
-
   sort-read : Not-ending m a → (o : Option V) → Sort (take-in m a o) values (went-if o)
   sort-read on None = (on, refl, refl)
   sort-read on (Some v) = on
@@ -74,55 +70,29 @@ module _ {V S : Type 0} (m : Meaning V S) (values : List V) (a : Alone V S) wher
   sort-write on l v false room = (on, refl, refl)
 
   sort-at : (q : Request V) → m .request (a .state) ≡ q → Sort (turn-at m values a q) (left-at m values a q) (answer-at m values a q)
-  sort-at (Read l) e = sort-read (reading l e) (or-else (newest (a .writes) l) (nth values l))
-  sort-at (Write l v) e = sort-write (writing l v e) l v (ltb l (length values)) (ltb (length (a .writes)) 16)
+  sort-at (Read l) e = sort-read (reading m values (a .state) (a .writes) l e) (or-else (newest (a .writes) l) (nth values l))
+  sort-at (Write l v) e = sort-write (writing m values (a .state) (a .writes) l v e) l v (ltb l (length values)) (ltb (length (a .writes)) 16)
   sort-at (End code number) e = (e, refl)
 
   sorted : Sort (turn m values a) (left m values a) (answer m values a)
   sorted = sort-at (m .request (a .state)) refl
 
 module _ {V S : Type 0} (m : Meaning V S) (values : List V) (o : Order) where
-  abbrev at : ℕ → Alone V S
-  at k = after-turns m values k o
-
-  -- a job that a turn leaves as it is stays so
-  stays : (j i : ℕ) → turn m values (at j) ≡ at j → at (i + j) ≡ at j
-  stays j zero e = ap at (omega arith)
-  stays j (suc i) e =
-      let n : suc i + j ≡ suc (i + j) = omega arith in
-      ap at n ∙ (ap (turn m values) (stays j i e) ∙ e)
-
-  abbrev Before : ℕ → Type 0
-  Before j = (i : ℕ) → i < j → Not-ending m (at i)
-
-  next : (j : ℕ) → Before j → Not-ending m (at j) → Before (suc j)
-  next j before here i h =
-      elim (cases-lt i j) [ inl l ↦ before i l | inr g ↦ subst (λ k. Not-ending m (at k)) (let e : j ≡ i = omega arith in e) here ]
-
-  never : (j : ℕ) → Before j → Not-ending m (at j) → turn m values (at j) ≡ at j → (k : ℕ) → Not-ending m (at k)
-  never j before here e k =
-      elim (cases-lt k j) [
-        | inl l ↦ before k l
-        | inr g ↦
-            let n : k - j + j ≡ k = omega arith in
-            subst (Not-ending m) (sym (stays j (k - j) e) ∙ ap at n) here
-      ]
-
   abbrev Right : ℕ → Done V → Type 0
   Right budget d = Means m o values budget (d .outcome) (d .values)
 
   -- from turn j on, with k turns more
-  means-turn : (k j : ℕ) → Before j → (Before (suc j) → Right (suc j + k) (done m values k (at (suc j)))) → (t : Turn)
-      → Sort m values (at j) (at (suc j)) (left m values (at j)) t → Right (j + suc k) (go-on m t (left m values (at j)) (done m values k (at (suc j))))
+  means-turn : (k j : ℕ) → Before m values o j → (Before m values o (suc j) → Right (suc j + k) (done m values k (at m values o (suc j)))) → (t : Turn)
+      → Sort m values (at m values o j) (at m values o (suc j)) (left m values (at m values o j)) t → Right (j + suc k) (go-on m t (left m values (at m values o j)) (done m values k (at m values o (suc j))))
   means-turn k j before rest Went s =
       let n : suc j + k ≡ j + suc k = omega arith in
-      subst (λ b. Right b (done m values k (at (suc j)))) n (rest (next j before s))
-  means-turn k j before rest (Stuck r) s = (never j before (s .0) (s .1), s .2)
+      subst (λ b. Right b (done m values k (at m values o (suc j)))) n (rest (next m values o j before s))
+  means-turn k j before rest (Stuck r) s = (never m values o j before (s .0) (s .1), s .2)
   means-turn k j before rest (Ended code number) s = (record { count = j; asks = s .0; leaves = s .1 }, let h : j < j + suc k = omega arith in h)
 
-  means-from : (k j : ℕ) → Before j → Right (j + k) (done m values k (at j))
+  means-from : (k j : ℕ) → Before m values o j → Right (j + k) (done m values k (at m values o j))
   means-from zero j before = (λ i h. before i (omega arith), refl)
-  means-from (suc k) j before = means-turn k j before (means-from k (suc j)) (answer m values (at j)) (sorted m values (at j))
+  means-from (suc k) j before = means-turn k j before (means-from k (suc j)) (answer m values (at m values o j)) (sorted m values (at m values o j))
 
   pub means : (budget : ℕ) → Right budget (done m values budget (begun m o))
   means budget = subst (λ b. Right b (done m values budget (begun m o))) (let e : 0 + budget ≡ budget = omega arith in e) (means-from budget 0 (λ i h. absurd (omega arith)))

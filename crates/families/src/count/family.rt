@@ -1,4 +1,5 @@
 // The four functions of a count.
+ghost use Rattle.families.specs.Laws.{Counts-are-right};
 ghost use Rattle.families.specs.Counts.{count};
 use super::Count;
 use super::CountState;
@@ -11,6 +12,14 @@ use survey::row::Row;
 
 // The most lines that are counted.
 pub const MOST_COUNTED: u32 = 64;
+
+impl Count {
+    pub fn new() -> Count
+        ensures { λ _. ⌜ Counts-are-right ⌝ }
+    {
+        Count
+    }
+}
 
 pub impl Family for Count as CountFamily {
     type State = CountState;

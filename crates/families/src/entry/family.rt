@@ -1,4 +1,5 @@
 // The four functions of an entry.
+ghost use Rattle.families.specs.Laws.{Entries-are-right};
 ghost use Rattle.families.specs.Entries.{entry};
 use super::Entry;
 use super::EntryState;
@@ -10,6 +11,14 @@ use survey::leg::LegRow;
 use survey::leg::LegRowRow;
 use survey::leg::OPEN;
 use survey::row::Row;
+
+impl Entry {
+    pub fn new() -> Entry
+        ensures { λ _. ⌜ Entries-are-right ⌝ }
+    {
+        Entry
+    }
+}
 
 pub impl Family for Entry as EntryFamily {
     type State = EntryState;

@@ -1,5 +1,6 @@
 // The four functions of a transfer.
 ghost use mathlib.Core.Path.{_≡_};
+ghost use Rattle.families.specs.Laws.{Transfers-are-right};
 ghost use Rattle.families.specs.Transfers.{transfer, decided};
 ghost use Rattle.survey.specs.Formats.{or-blank};
 ghost use Rattle.survey.specs.Ropes.{metres-format};
@@ -29,6 +30,14 @@ fn decide(from: u32, to: u32, metres: u32, held: u32, there: Metres) -> Transfer
         left: held - metres,
         to,
         total: there.count() + metres,
+    }
+}
+
+impl Transfer {
+    pub fn new() -> Transfer
+        ensures { λ _. ⌜ Transfers-are-right ⌝ }
+    {
+        Transfer
     }
 }
 
