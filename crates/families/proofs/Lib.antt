@@ -1,1 +1,4 @@
 pub mod Entering
+pub mod Totals
+pub mod Moving
+pub mod Counting

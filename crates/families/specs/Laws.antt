@@ -41,23 +41,19 @@ abbrev pub total : List MetresRow → ℕ
 total [] = 0
 total (row ∷ rows) = metres-of row + total rows
 
--- the metres of two lines, of which c are to go from the first to the second
-pub record Between (o : Order) (values : List MetresRow) (held there : ℕ) : Type 0 where
+-- the rows of two lines, of which c metres are to go from the first to the second
+pub record Between (o : Order) (values : List MetresRow) (held there : MetresRow) : Type 0 where
   pub kind : o .kind ≡ 0
   pub apart : o .a ≢ o .b
-  pub from-row : MetresRow
-  pub to-row : MetresRow
-  pub from : nth values (o .a) ≡ Some from-row
-  pub to : nth values (o .b) ≡ Some to-row
-  pub held-is : held ≡ metres-of from-row
-  pub there-is : there ≡ metres-of to-row
+  pub from : nth values (o .a) ≡ Some held
+  pub to : nth values (o .b) ≡ Some there
 
 -- c metres go from line a to line b; or a holds too few; or b would have too many; or the order is bad
 pub data Transferred (o : Order) (values : List MetresRow) : ℕ → ℕ → List MetresRow → Type 0 where
-  moves : (held there : ℕ) → Between o values held there → o .c ≤ held → there + o .c ≤ 1000000
-      → Transferred o values 0 0 (set (set values (o .a) (metres-row (held - o .c))) (o .b) (metres-row (there + o .c)))
-  too-few : (held there : ℕ) → Between o values held there → held < o .c → Transferred o values 1 0 values
-  too-many : (held there : ℕ) → Between o values held there → o .c ≤ held → 1000000 < there + o .c → Transferred o values 2 0 values
+  moves : (held there : MetresRow) → Between o values held there → o .c ≤ metres-of held → metres-of there + o .c ≤ 1000000
+      → Transferred o values 0 0 (set (set values (o .a) (metres-row (metres-of held - o .c))) (o .b) (metres-row (metres-of there + o .c)))
+  too-few : (held there : MetresRow) → Between o values held there → metres-of held < o .c → Transferred o values 1 0 values
+  too-many : (held there : MetresRow) → Between o values held there → o .c ≤ metres-of held → 1000000 < metres-of there + o .c → Transferred o values 2 0 values
   bad : (o .kind ≢ 0) ⊎ (o .a ≡ o .b) → Transferred o values 9 0 values
 
 -- and whatever it did, the metres of all lines add up to what they were
