@@ -242,107 +242,65 @@ fn long_lists(rt: LibcRuntime) -> Result<(), Fail> {
     check_eq(over.as_str(), "! 0 24 60000 0\n")
 }
 
+fn shows(heap: Global, line: ListingLine<&str>, want: &str) -> Result<(), Fail> {
+    let text = line.to_string(heap)?;
+    check_eq(text.as_str(), want)
+}
+
 #[test]
-fn listing_lines(rt: LibcRuntime) -> Result<(), Fail> {
-    let most = u32::MAX;
+fn steps_and_refusals(rt: LibcRuntime) -> Result<(), Fail> {
+    let steps = [
+        (Answer::Read { line: 63 }, "T 5 read 63\n"),
+        (Answer::Write { line: 1 }, "T 5 write 1\n"),
+        (
+            Answer::End {
+                code: 0,
+                number: 4_294_967_295,
+            },
+            "T 5 end 0 4294967295\n",
+        ),
+        (Answer::Back { kept: 1 }, "T 5 back 1\n"),
+    ];
+    for (answer, want) in steps {
+        shows(rt.alloc(), ListingLine::Stepped { seat: 5, answer }, want)?;
+    }
+    let refusals = [
+        (Letter::Start, Refusal::NoSeat, "S 6 refused 1\n"),
+        (Letter::Start, Refusal::SeatTaken, "S 6 refused 2\n"),
+        (Letter::Withdraw, Refusal::SeatVacant, "W 6 refused 3\n"),
+        (Letter::Look, Refusal::NoLine, "L 6 refused 4\n"),
+        (Letter::Step, Refusal::TooManyWrites, "T 6 refused 5\n"),
+        (Letter::Look, Refusal::LongBook, "L 6 refused 6\n"),
+        (Letter::Step, Refusal::ShortMemory, "T 6 refused 7\n"),
+    ];
+    for (letter, refusal, want) in refusals {
+        shows(
+            rt.alloc(),
+            ListingLine::Refused {
+                letter,
+                number: 6,
+                refusal,
+            },
+            want,
+        )?;
+    }
+    Ok(())
+}
+
+#[test]
+fn other_listing_lines(rt: LibcRuntime) -> Result<(), Fail> {
+    let look = LookLine {
+        line: 1,
+        value: "1 2 1 7000",
+    };
     let fault = Fault {
         line: 0,
         number: 35,
         place: 12,
         cause: 13,
     };
-    let look = LookLine {
-        line: 1,
-        value: "1 2 1 7000",
-    };
-    let cases: [(ListingLine<&str>, &str); 14] = [
-        (ListingLine::Started { seat: 0 }, "S 0 ok\n"),
-        (
-            ListingLine::Stepped {
-                seat: 0,
-                answer: Answer::Read { line: 63 },
-            },
-            "T 0 read 63\n",
-        ),
-        (
-            ListingLine::Stepped {
-                seat: 5,
-                answer: Answer::Write { line: 1 },
-            },
-            "T 5 write 1\n",
-        ),
-        (
-            ListingLine::Stepped {
-                seat: 1,
-                answer: Answer::End {
-                    code: 0,
-                    number: most,
-                },
-            },
-            "T 1 end 0 4294967295\n",
-        ),
-        (
-            ListingLine::Stepped {
-                seat: 0,
-                answer: Answer::Back { kept: 1 },
-            },
-            "T 0 back 1\n",
-        ),
-        (ListingLine::Withdrawn { seat: 3 }, "W 3 ok\n"),
-        (ListingLine::Looked(look), "L 1 1 2 1 7000\n"),
-        (
-            ListingLine::Refused {
-                letter: Letter::Start,
-                number: 6,
-                refusal: Refusal::NoSeat,
-            },
-            "S 6 refused 1\n",
-        ),
-        (
-            ListingLine::Refused {
-                letter: Letter::Start,
-                number: 0,
-                refusal: Refusal::SeatTaken,
-            },
-            "S 0 refused 2\n",
-        ),
-        (
-            ListingLine::Refused {
-                letter: Letter::Step,
-                number: 0,
-                refusal: Refusal::TooManyWrites,
-            },
-            "T 0 refused 5\n",
-        ),
-        (
-            ListingLine::Refused {
-                letter: Letter::Step,
-                number: 0,
-                refusal: Refusal::ShortMemory,
-            },
-            "T 0 refused 7\n",
-        ),
-        (
-            ListingLine::Refused {
-                letter: Letter::Withdraw,
-                number: 2,
-                refusal: Refusal::SeatVacant,
-            },
-            "W 2 refused 3\n",
-        ),
-        (
-            ListingLine::Refused {
-                letter: Letter::Look,
-                number: 64,
-                refusal: Refusal::NoLine,
-            },
-            "L 64 refused 4\n",
-        ),
-        (ListingLine::Faulty(fault), "! 0 35 12 13\n"),
-    ];
-    for (line, want) in cases {
-        let text = line.to_string(rt.alloc())?;
-        check_eq(text.as_str(), want)?;
-    }
-    Ok(())
+    shows(rt.alloc(), ListingLine::Started { seat: 0 }, "S 0 ok\n")?;
+    shows(rt.alloc(), ListingLine::Withdrawn { seat: 3 }, "W 3 ok\n")?;
+    shows(rt.alloc(), ListingLine::Looked(look), "L 1 1 2 1 7000\n")?;
+    shows(rt.alloc(), ListingLine::Faulty(fault), "! 0 35 12 13\n")
 }
