@@ -6,12 +6,12 @@ use lib.ListN.{length, getD, take, drop}
 use Rattle.std.specs.declared.option.Option.{Option}
 use Rattle.std.specs.declared.option.Option.the-variants.{Some, None}
 
--- the number in the first two bytes, and in the first four
+-- the number in the first two bytes, and in the four from place p on
 abbrev pub two : List ℕ → ℕ
 two bs = getD bs 0 0 + getD bs 1 0 * 256
 
-abbrev pub four : List ℕ → ℕ
-four bs = getD bs 0 0 + getD bs 1 0 * 256 + getD bs 2 0 * 65536 + getD bs 3 0 * 16777216
+abbrev pub four : ℕ → List ℕ → ℕ
+four p bs = getD bs p 0 + getD bs (p + 1) 0 * 256 + getD bs (p + 2) 0 * 65536 + getD bs (p + 3) 0 * 16777216
 
 abbrev pub two-bytes : ℕ → List ℕ
 two-bytes n = (n % 256) ∷ (n / 256 % 256) ∷ []

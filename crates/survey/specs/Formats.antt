@@ -2,8 +2,9 @@
 use mathlib.Core.Path.{_≡_}
 use mathlib.Core.List.{List, _++_}
 use Prim.Native.Nat.{ℕ, _≤_, _<_}
-use lib.ListN.{length, drop}
+use lib.ListN.{length}
 use denote.Ref.{RefT}
+use Rattle.std.specs.Holes.{between}
 use Rattle.std.specs.declared.option.Option.{Option}
 use Rattle.std.specs.declared.option.Option.the-variants.{Some, None}
 use Rattle.std.specs.declared.result.Result.{Result}
@@ -45,5 +46,5 @@ Checks f plain row (Err e) = f .fault row ≡ Some e
 
 -- the row at the front of bs and what follows it, or nothing where bs is too short
 abbrev pub Decodes : {R : Type 0} → Format R → List ℕ → Option (R × RefT (List ℕ)) → Type 0
-Decodes f bs (Some p) = (f .width ≤ length bs) × (p .0 ≡ f .decoded bs) × (p .1 .now ≡ drop (f .width) bs)
+Decodes f bs (Some p) = (f .width ≤ length bs) × (p .0 ≡ f .decoded bs) × (p .1 .now ≡ between (f .width) (length bs) bs)
 Decodes f bs None = length bs < f .width

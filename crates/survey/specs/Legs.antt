@@ -4,7 +4,7 @@ use mathlib.Core.List.{List, _∷_, _++_}
 use Prim.Native.Nat.{ℕ}
 use lib.Chars.{codes}
 use lib.Dec.{leb}
-use lib.ListN.{getD, drop}
+use lib.ListN.{getD}
 use Rattle.std.specs.Written.{decimal}
 use Rattle.std.specs.declared.option.Option.{Option}
 use Rattle.std.specs.declared.option.Option.the-variants.{Some, None}
@@ -28,7 +28,7 @@ leg-fault r =
 
 -- from, to, passage, and four bytes of length
 abbrev pub leg-at : List ℕ → LegRow
-leg-at bs = leg-row (getD bs 0 0) (getD bs 1 0) (getD bs 2 0) (four (drop 3 bs))
+leg-at bs = leg-row (getD bs 0 0) (getD bs 1 0) (getD bs 2 0) (four 3 bs)
 
 abbrev pub leg-bytes : LegRow → List ℕ
 leg-bytes r = r .from ∷ r .to ∷ r .passage ∷ four-bytes (r .length)

@@ -27,7 +27,7 @@ metres-format =
       width = 4;
       blank = metres-row 0;
       fault = metres-fault;
-      decoded = λ bs. metres-row (four bs);
+      decoded = λ bs. metres-row (four 0 bs);
       encoded = λ r. four-bytes (r .count);
       text = metres-text;
     }
