@@ -3,6 +3,7 @@ ghost use Prim.Native.Nat.{_≤_};
 
 mod methods;
 
+pub use methods::LAST_STATION;
 pub use methods::LegDisplay;
 pub use methods::LegRowRow;
 
