@@ -1,0 +1,3 @@
+pub mod Reaches
+pub mod Searches
+pub mod Refusals
