@@ -1,1 +1,6 @@
 pub mod Choosing
+pub mod Turns
+pub mod Legs
+pub mod Flags
+pub mod Relaxing
+pub mod Finishing
