@@ -4,3 +4,5 @@ pub mod Legs
 pub mod Flags
 pub mod Relaxing
 pub mod Finishing
+pub mod Passing
+pub mod Searching
