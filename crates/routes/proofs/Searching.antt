@@ -23,15 +23,15 @@ use Rattle.routes.specs.declared.search.Next.the-variants.{Line, Ended}
 use Rattle.routes.specs.declared.reach.Nearest.{Nearest}
 use Rattle.routes.specs.declared.reach.Reach.{Reach}
 use Rattle.routes.specs.Reaches.{nearest-of}
-use Rattle.routes.specs.Searches.{route-family, bad-order, chosen, begun-at, first-next, first-search, refused}
-use Rattle.routes.specs.Routes.{Among, Route, here, onward, Right, legs-of, Searched, Searches-are-right, Ended-searches-are-right}
-use Rattle.routes.specs.Answers.{still}
+use Rattle.routes.specs.Searches.{route-family, bad-order, request-of, chosen, begun-at, first-next, first-search, refused}
+use Rattle.routes.specs.Routes.{Among, Route, here, onward, Least, Right, legs-of, Searched, Searches-are-right, Ended-searches-are-right}
+use Rattle.routes.specs.Answers.{still, length-found, Answers}
 use Rattle.routes.proofs.Legs.{all-in-range}
 use Rattle.routes.proofs.Relaxing.{far, relaxed-all}
 use Rattle.routes.proofs.Choosing.{Is-nearest, nearest-is}
 use Rattle.routes.proofs.Flags.{left-set}
 use Rattle.routes.proofs.Finishing.{Before, After, finish, no-route, least-way, goes-on, still-unfinished, begins, first-unfinished, first-reach, first-finished}
-use Rattle.routes.proofs.Turns.{turns-add, end-stays, ends-alike}
+use Rattle.routes.proofs.Turns.{turns-add, ended-since, ends-alike}
 use Rattle.routes.proofs.Passing.{at-line, a-pass, lines-read, waits}
 
 abbrev asks : Alone LegRow Search → Request LegRow
@@ -177,6 +177,27 @@ searches-are-right o rows good enough =
     searched o rows good
     (from-first rows (o .a) (o .b) (o .c) (omega (arith, ltb-false 15 (o .a) (q .0))) (omega (arith, ltb-false 15 (o .b) (r .0))) enough)
 
+-- what a right answer says of the length that was found
+found-right : (legs : List LegRow) (a b code number : ℕ) (n : Next) → request-of n ≡ End code number → Right legs a b code number → Answers legs a b (length-found n)
+found-right legs a b code number (Line u l) e r = let z : _≡_ {A = ℕ} 0 1 = cc in absurd (let q : ⊥ = omega arith in q)
+found-right legs a b code number (Ended x y) e r =
+    let f : x ≡ code = cc in
+    let g : y ≡ number = cc in
+    elim r [
+      | inl p ↦ subst (λ (k : ℕ). Answers legs a b (length-found (Ended k y))) (sym (f ∙ p .0)) (subst (Least legs a b) (sym g) (p .1))
+      | inr p ↦ subst (λ (k : ℕ). Answers legs a b (length-found (Ended k y))) (sym (f ∙ p .0)) (p .2)
+    ]
+
+-- the state after 15 × c turns has the answer
+pub answer-is-right : (o : Order) (rows : List LegRow) → bad-order o ≡ false → o .c ≤ length rows → (last : Search)
+    → turns route-family rows (15 * o .c) (begun route-family o) ≡ still last → Answers (legs-of rows (o .c)) (o .a) (o .b) (length-found (last .next))
+answer-is-right o rows good enough last e =
+    let x = searches-are-right o rows good enough in
+    let there = turns route-family rows (x .count) (begun route-family o) in
+    let same : turns route-family rows (15 * o .c) (begun route-family o) ≡ there =
+    ended-since route-family rows (begun route-family o) there (x .count) (15 * o .c) (x .code) (x .number) (x .soon) refl (x .asks) in
+    found-right (legs-of rows (o .c)) (o .a) (o .b) (x .code) (x .number) (last .next) (ap asks (sym e ∙ same) ∙ x .asks) (x .right)
+
 -- what a search answers is what it answers whenever it is looked at again
 alike : (o : Order) (rows : List LegRow) → Searched o rows → (code number : ℕ) (after : List LegRow) → Ends route-family o rows code number after
     → Right (legs-of rows (o .c)) (o .a) (o .b) code number × (after ≡ rows)
@@ -197,7 +218,7 @@ ends-refused : (o : Order) (rows : List LegRow) → bad-order o ≡ true → (co
 ends-refused o rows bad code number after e =
     let f : begun route-family o ≡ still refused = ap still (cond-true (bad-order o) _ _ bad) in
     let g : turns route-family rows (e .count) (begun route-family o) ≡ still refused =
-    ap (turns route-family rows (e .count)) f ∙ end-stays route-family rows (still refused) 9 0 refl (e .count) in
+    ended-since route-family rows (begun route-family o) (still refused) 0 (e .count) 9 0 (omega arith) f refl in
     let q : _≡_ {A = Request LegRow} (End 9 0) (End code number) = sym (ap asks g) ∙ e .asks in
     let c : code ≡ 9 = cc in
     let n : number ≡ 0 = cc in

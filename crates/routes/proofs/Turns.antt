@@ -1,5 +1,5 @@
 -- Turns of any job alone, one after the other.
-use Prim.Native.Nat.{ℕ, zero, suc, _<_, _+_, _-_}
+use Prim.Native.Nat.{ℕ, zero, suc, _≤_, _+_, _-_}
 use mathlib.Core.Path.{_≡_, refl, sym, _∙_, ap}
 use mathlib.Core.Logic.{inl, inr}
 use mathlib.Core.List.{List}
@@ -19,22 +19,25 @@ module _ {V S : Type 0} (m : Meaning V S) (values : List V) where
   turns-add j zero a = ap (λ (n : ℕ). turns m values n a) (add-zero j)
   turns-add j (suc k) a = let e : j + suc k ≡ suc (j + k) = omega arith in ap (λ (n : ℕ). turns m values n a) e ∙ ap (turn m values) (turns-add j k a)
 
-  -- a job that asks to end does nothing more
-  pub end-stays : (a : Alone V S) (code number : ℕ) → m .request (a .state) ≡ End code number → (k : ℕ) → turns m values k a ≡ a
-  end-stays a code number e zero = refl
-  end-stays a code number e (suc k) = ap (turn m values) (end-stays a code number e k) ∙ ap (turn-at m values a) e
+  -- a job that a turn leaves as it is stays so
+  stands : (a : Alone V S) → turn m values a ≡ a → (k : ℕ) → turns m values k a ≡ a
+  stands a e zero = refl
+  stands a e (suc k) = ap (turn m values) (stands a e k) ∙ e
 
-  -- once it asks to end, it is as it was at that turn
-  pub ended-since : (a : Alone V S) (j k code number : ℕ) → j < suc k → m .request (turns m values j a .state) ≡ End code number → turns m values k a ≡ turns m values j a
-  ended-since a j k code number h e =
+  pub stands-since : (a b : Alone V S) (j k : ℕ) → j ≤ k → turns m values j a ≡ b → turn m values b ≡ b → turns m values k a ≡ b
+  stands-since a b j k h e f =
       let s : j + (k - j) ≡ k = omega arith in
-      ap (λ (n : ℕ). turns m values n a) (sym s) ∙ (turns-add j (k - j) a ∙ end-stays (turns m values j a) code number e (k - j))
+      ap (λ (n : ℕ). turns m values n a) (sym s) ∙ (turns-add j (k - j) a ∙ (ap (turns m values (k - j)) e ∙ stands b f (k - j)))
+
+  -- a job that asks to end stays as it is
+  pub ended-since : (a b : Alone V S) (j k code number : ℕ) → j ≤ k → turns m values j a ≡ b → m .request (b .state) ≡ End code number → turns m values k a ≡ b
+  ended-since a b j k code number h e f = stands-since a b j k h e (ap (turn-at m values b) f)
 
   -- two turns at which it asks to end are alike
   pub ends-alike : (a : Alone V S) (j k c d e f : ℕ) → m .request (turns m values j a .state) ≡ End c d → m .request (turns m values k a .state) ≡ End e f
       → turns m values j a ≡ turns m values k a
   ends-alike a j k c d e f p q =
       elim (cases-lt j k) [
-        | inl h ↦ sym (ended-since a j k c d (omega arith) p)
-        | inr h ↦ ended-since a k j e f (omega arith) q
+        | inl h ↦ sym (ended-since a (turns m values j a) j k c d (omega arith) refl p)
+        | inr h ↦ ended-since a (turns m values k a) k j e f h refl q
       ]

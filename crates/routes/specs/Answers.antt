@@ -11,18 +11,23 @@ use Rattle.std.specs.declared.result.Result.{Result}
 use Rattle.std.specs.declared.result.Result.the-variants.{Ok, Err}
 use Rattle.survey.specs.declared.leg.LegRow.{LegRow}
 use Rattle.calls.specs.declared.order.Order.{Order}
-use Rattle.jobs.specs.Alone.{Alone}
+use Rattle.jobs.specs.Alone.{Alone, turn}
 use Rattle.routes.specs.declared.search.Search.{Search}
 use Rattle.routes.specs.declared.search.Next.{Next}
 use Rattle.routes.specs.declared.search.Next.the-variants.{Line, Ended}
 use Rattle.routes.specs.declared.refusal.SearchRefusal.{SearchRefusal}
 use Rattle.routes.specs.declared.refusal.SearchRefusal.the-variants.{BadOrder, NoLine}
-use Rattle.routes.specs.Searches.{bad-order}
+use Rattle.routes.specs.Searches.{bad-order, route-family}
 use Rattle.routes.specs.Routes.{Least, No-route, legs-of}
 
 -- a search as a job that has written nothing
 abbrev pub still : Search → Alone LegRow Search
 still s = record { state = s; writes = [] }
+
+-- one turn of a search, or nothing where the turn changes nothing
+abbrev pub Turned : List LegRow → Search → Option Search → Type 0
+Turned rows s (Some t) = turn route-family rows (still s) ≡ still t
+Turned rows s None = turn route-family rows (still s) ≡ still s
 
 -- the length that a search ended with, if it found a route
 abbrev pub length-found : Next → Option ℕ

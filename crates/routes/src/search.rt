@@ -2,6 +2,7 @@
 ghost use mathlib.Core.Path.{_≡_};
 ghost use Prim.Native.Nat.{_<_};
 ghost use Rattle.routes.specs.Searches.{refused, begun-at, first-next, choose, line-done, after-row};
+ghost use Rattle.routes.specs.Answers.{length-found};
 use crate::reach::Reach;
 use crate::reach::STATIONS;
 use crate::reach::UNREACHED;
@@ -123,6 +124,16 @@ impl Search {
         if let Next::Line { station, line } = self.next {
             self.reach.relax(station, row.or_blank());
             self.finish_line(station, line);
+        }
+    }
+
+    // The length of the route that was found, once the search has ended with one.
+    pub(crate) fn length_found(&self) -> Option<u32>
+        ensures { λ r. ⌜ r ≡ length-found (now (self .entry) .next) ⌝ }
+    {
+        match self.next {
+            Next::Ended { code, number } if code == FOUND => Some(number),
+            _ => None,
         }
     }
 }
