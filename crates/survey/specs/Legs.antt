@@ -1,10 +1,15 @@
 -- Legs: their ranges, their seven bytes and their text.
-use mathlib.Core.Bool.{cond, _&&_}
+use mathlib.Core.Bool.{Bool, cond, _&&_, _||_}
 use mathlib.Core.List.{List, _∷_, _++_}
 use Prim.Native.Nat.{ℕ}
 use lib.Chars.{codes}
+<<<<<<< HEAD
 use lib.Dec.{leb}
 use lib.ListN.{getD}
+=======
+use lib.Dec.{leb, eqb}
+use lib.ListN.{getD, drop}
+>>>>>>> 731e8f350fd57cc5c3605d95d83d824ef91f66d4
 use Rattle.std.specs.Written.{decimal}
 use Rattle.std.specs.declared.option.Option.{Option}
 use Rattle.std.specs.declared.option.Option.the-variants.{Some, None}
@@ -12,7 +17,7 @@ use Rattle.survey.specs.declared.fault.ValueFault.{ValueFault}
 use Rattle.survey.specs.declared.fault.ValueFault.the-variants.{Station, Length, Passage}
 use Rattle.survey.specs.declared.leg.LegRow.{LegRow}
 use Rattle.survey.specs.Bytes.{four, four-bytes}
-use Rattle.survey.specs.Formats.{Format}
+use Rattle.survey.specs.Formats.{Format, or-blank}
 
 abbrev pub leg-row : ℕ → ℕ → ℕ → ℕ → LegRow
 leg-row from to passage length = record { from = from; to = to; passage = passage; length = length }
@@ -47,3 +52,11 @@ leg-format =
       encoded = leg-bytes;
       text = leg-text;
     }
+
+-- the row of the leg that a row counts as
+abbrev pub as-leg : LegRow → LegRow
+as-leg r = or-blank leg-format r
+
+-- whether a leg leads from station u to station v: it is open, and is walked either way
+abbrev pub leads : LegRow → ℕ → ℕ → Bool
+leads leg u v = eqb (leg .passage) 1 && ((eqb (leg .from) u && eqb (leg .to) v) || (eqb (leg .to) u && eqb (leg .from) v))

@@ -3,7 +3,7 @@ ghost use mathlib.Core.Path.{_≡_};
 ghost use Prim.Native.Nat.{_≤_};
 ghost use Rattle.std.specs.declared.option.Option.the-variants.{Some};
 ghost use Rattle.survey.specs.Formats.{Format, Checks};
-ghost use Rattle.survey.specs.Legs.{leg-row, leg-format, leg-text, closed-row};
+ghost use Rattle.survey.specs.Legs.{leg-row, leg-format, leg-text, closed-row, leads};
 use super::Leg;
 use super::LegRow;
 use crate::bytes::put;
@@ -82,6 +82,15 @@ impl Leg {
         ensures high_bound { λ r. ⌜ r ≤ 10000000 ⌝ }
     {
         self.row.length
+    }
+
+    // Whether the leg may be walked from one station to another.
+    pub fn leads(&self, from: u8, to: u8) -> bool
+        ensures { λ r. ⌜ r ≡ leads (now (self .entry) .row) from to ⌝ }
+    {
+        let row = self.row;
+        row.passage == OPEN
+            && ((row.from == from && row.to == to) || (row.to == from && row.from == to))
     }
 }
 

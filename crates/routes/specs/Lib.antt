@@ -1,0 +1,5 @@
+pub mod Reaches
+pub mod Searches
+pub mod Routes
+pub mod Refusals
+pub mod Answers
