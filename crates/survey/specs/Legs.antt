@@ -3,13 +3,8 @@ use mathlib.Core.Bool.{Bool, cond, _&&_, _||_}
 use mathlib.Core.List.{List, _∷_, _++_}
 use Prim.Native.Nat.{ℕ}
 use lib.Chars.{codes}
-<<<<<<< HEAD
-use lib.Dec.{leb}
-use lib.ListN.{getD}
-=======
 use lib.Dec.{leb, eqb}
-use lib.ListN.{getD, drop}
->>>>>>> 731e8f350fd57cc5c3605d95d83d824ef91f66d4
+use lib.ListN.{getD}
 use Rattle.std.specs.Written.{decimal}
 use Rattle.std.specs.declared.option.Option.{Option}
 use Rattle.std.specs.declared.option.Option.the-variants.{Some, None}

@@ -3,11 +3,8 @@ ghost use Prim.Native.Nat.{_≤_};
 
 mod methods;
 
-<<<<<<< HEAD
 pub use methods::CLOSED;
-=======
 pub use methods::LAST_STATION;
->>>>>>> 731e8f350fd57cc5c3605d95d83d824ef91f66d4
 pub use methods::LegDisplay;
 pub use methods::LegRowRow;
 pub use methods::OPEN;
