@@ -16,7 +16,8 @@ use Rattle.survey.proofs.Ranges.{In-range}
 use Rattle.calls.specs.declared.order.Order.{Order}
 use Rattle.jobs.specs.declared.request.Request.{Request}
 use Rattle.jobs.specs.declared.request.Request.the-variants.{Read, End}
-use Rattle.jobs.specs.Alone.{Alone, begun, turns, Ends, Written, applied}
+use Rattle.jobs.specs.Alone.{Alone, begun, turns, Ends, applied}
+use Rattle.jobs.specs.declared.written.Written.{Written}
 use Rattle.routes.specs.declared.search.Search.{Search}
 use Rattle.routes.specs.declared.search.Next.{Next}
 use Rattle.routes.specs.declared.search.Next.the-variants.{Line, Ended}
