@@ -37,8 +37,7 @@ pub impl From<FileFault> for CopyRefusal as CopyRefusalFromFileFault {
     }
 }
 
-// Saves `from` into `file` and loads that into `to`, which then has the same lines.
-pub fn copy<R: Row, B: Book<Value = R>, C: Book<Value = R>>(
+fn save_and_load<R: Row, B: Book<Value = R>, C: Book<Value = R>>(
     from: &B,
     file: &mut [u8],
     to: &mut C,
@@ -48,4 +47,15 @@ pub fn copy<R: Row, B: Book<Value = R>, C: Book<Value = R>>(
     let size = save(from, file)?;
     load(&file[0..size], to)?;
     Ok(())
+}
+
+// Saves `from` into `file` and loads that into `to`, which then has the same lines.
+pub fn copy<R: Row, B: Book<Value = R>, C: Book<Value = R>>(
+    from: &B,
+    file: &mut [u8],
+    to: &mut C,
+) -> Result<(), CopyRefusal>
+    ensures { λ r. ⌜ Copies (R·Row .format) (B·Book .lines (now (from .entry))) (length (now (file .entry))) (C·Book .lines (now (to .entry))) (C·Book .lines (now (to .exit))) r ⌝ }
+{
+    save_and_load(from, file, to)
 }

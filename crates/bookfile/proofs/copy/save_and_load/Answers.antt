@@ -6,7 +6,7 @@ use Rattle.std.specs.declared.result.Result.the-variants.{Ok, Err}
 use Rattle.std.proofs.shelf.Results.{err-from-errBy}
 use Rattle.bookfile.proofs.Kept.{loads-saved}
 use Rattle.bookfile.proofs.Saving.{file-length}
-use Rattle.bookfile.proofs.copy.copy.Needs as need
+use Rattle.bookfile.proofs.copy.save_and_load.Needs as need
 
 pub returns-in-Break-size : need.returns-in-Break-size
 returns-in-Break-size g c =
