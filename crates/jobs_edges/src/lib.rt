@@ -1,0 +1,3 @@
+// Examples of jobs done alone.
+#[cfg(test)]
+mod tests;

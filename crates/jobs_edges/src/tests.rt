@@ -1,0 +1,2 @@
+mod legs;
+mod ropes;
