@@ -7,6 +7,7 @@ use native.Mathlib.Omega.{arith}
 use lib.Dec.{leb, ltb, eqb}
 use lib.ListN.{length}
 use borrow.Author.Count.{below-more, below-none}
+use Rattle.std.specs.Options.{orOther}
 use Rattle.std.specs.declared.option.Option.{Option}
 use Rattle.std.specs.declared.option.Option.the-variants.{Some, None}
 use Rattle.std.proofs.shelf.Tests.{ltb-true, ltb-false, leb-true, leb-false, eqb-true, eqb-false, not-true, not-false, lt-ltb, le-ltb, le-leb, lt-leb, eq-eqb, ne-eqb, not-from-true, not-from-false}
@@ -15,7 +16,7 @@ use Rattle.survey.specs.Formats.{Format}
 use Rattle.bookfile.specs.declared.fault.FileCause.{FileCause}
 use Rattle.bookfile.specs.declared.fault.FileCause.the-variants.{Short, Lines, Pairs, Length, Line, Value}
 use Rattle.bookfile.specs.declared.fault.FileFault.{FileFault}
-use Rattle.bookfile.specs.Files.{line-count, pair-count, line-place, line-of, value-place, row-of, file-size, fault-where, value-fault, first-of, or-else, pair-fault, pairs-fault, head-fault, file-fault}
+use Rattle.bookfile.specs.Files.{line-count, pair-count, line-place, line-of, value-place, row-of, file-size, fault-where, value-fault, first-of, pair-fault, pairs-fault, head-fault, file-fault}
 use Rattle.bookfile.specs.Meanings.{Right-head, Right-pair, Right-before, Right-file, Comes, Exactly}
 use Rattle.bookfile.proofs.Pairs.{from, pairs-on, pairs-stop, pairs-done}
 
@@ -53,7 +54,7 @@ module _ {R : Type 0} (f : Format R) (n : ℕ) (bs : List ℕ) where
   module _ (head : Right-head f n bs) (i : ℕ) (before : Right-before f n bs i) (lt : i < m) (rest : Option FileFault) where
     pair-says : (line : Bool) (value : Option ValueFault) → leb n (line-of bs i) ≡ line → f .fault (row-of f m bs i) ≡ value
         → (Right-pair f n bs i → Says (Right-before f n bs m) rest)
-        → Says (Right-before f n bs m) (or-else (first-of (fault-where line (line-place i) Line ∷ value-fault (value-place f m i) value ∷ [])) rest)
+        → Says (Right-before f n bs m) (orOther (first-of (fault-where line (line-place i) Line ∷ value-fault (value-place f m i) value ∷ [])) rest)
     pair-says true value l v next = (head, (i, lt, before, leb-true _ _ l, refl))
     pair-says false None l v next = next (record { line = leb-false _ _ l; value = v })
     pair-says false (Some fault) l v next = (head, (i, lt, before, leb-false _ _ l, v, refl))
@@ -64,7 +65,7 @@ module _ {R : Type 0} (f : Format R) (n : ℕ) (bs : List ℕ) where
   pairs-sound head (suc k) i e before =
       pair-says head i before (omega arith) (pairs-fault f n m bs (i + 1) k) _ _ refl refl (λ here. pairs-sound head k (i + 1) (omega arith) (right-next i before here))
 
-  file-says : (first : Option FileFault) → Says (Right-head f n bs) first → Says (Right-file f n bs) (or-else first (pairs-fault f n m bs 0 m))
+  file-says : (first : Option FileFault) → Says (Right-head f n bs) first → Says (Right-file f n bs) (orOther first (pairs-fault f n m bs 0 m))
   file-says None head = after head (pairs-fault f n m bs 0 m) (pairs-sound head m 0 (omega arith) (below-none (Right-pair f n bs)))
     where
       after : Right-head f n bs → (rest : Option FileFault) → Says (Right-before f n bs m) rest → Says (Right-file f n bs) rest

@@ -5,6 +5,7 @@ use mathlib.Core.List.{List, [], _∷_}
 use Prim.Native.Nat.{ℕ, zero, suc, min, _+_, _*_, _≤_}
 use lib.Dec.{leb, ltb, eqb}
 use lib.ListN.{length, drop}
+use Rattle.std.specs.Options.{orOther}
 use Rattle.std.specs.declared.option.Option.{Option}
 use Rattle.std.specs.declared.option.Option.the-variants.{Some, None}
 use Rattle.std.specs.declared.result.Result.{Result}
@@ -45,14 +46,10 @@ abbrev pub fault-where : Bool → ℕ → FileCause → Option FileFault
 fault-where true place cause = fault-at place cause
 fault-where false place cause = None
 
-abbrev pub or-else : {F : Type 0} → Option F → Option F → Option F
-or-else None next = next
-or-else (Some first) next = Some first
-
 -- the first fault of several checks
 abbrev pub first-of : {F : Type 0} → List (Option F) → Option F
 first-of [] = None
-first-of (check ∷ checks) = or-else check (first-of checks)
+first-of (check ∷ checks) = orOther check (first-of checks)
 
 module _ {R : Type 0} (f : Format R) where
   -- the values begin behind the m line numbers
@@ -73,7 +70,7 @@ module _ {R : Type 0} (f : Format R) where
   -- the first fault of k pairs, from pair i on
   unfoldable pub pairs-fault : ℕ → ℕ → List ℕ → ℕ → ℕ → Option FileFault
   pairs-fault n m bs i zero = None
-  pairs-fault n m bs i (suc k) = or-else (pair-fault n m bs i) (pairs-fault n m bs (i + 1) k)
+  pairs-fault n m bs i (suc k) = orOther (pair-fault n m bs i) (pairs-fault n m bs (i + 1) k)
 
   -- the first fault of bs before its pairs: too few bytes, then n, then m, then the length
   abbrev pub head-fault : ℕ → List ℕ → Option FileFault
@@ -87,7 +84,7 @@ module _ {R : Type 0} (f : Format R) where
 
   -- the first fault of bs as a file for a book of n lines
   abbrev pub file-fault : ℕ → List ℕ → Option FileFault
-  file-fault n bs = or-else (head-fault n bs) (pairs-fault n (pair-count bs) bs 0 (pair-count bs))
+  file-fault n bs = orOther (head-fault n bs) (pairs-fault n (pair-count bs) bs 0 (pair-count bs))
 
 -- an answer that tells whether there is a fault, and which
 abbrev pub Tells : {T : Type 0} → Option FileFault → Result T FileFault → Type 0

@@ -7,6 +7,7 @@ use Prim.Native.Nat.{ℕ, zero, suc, _+_, _-_, _<_}
 use native.Mathlib.Omega.{arith}
 use lib.Dec.{ltb}
 use lib.ListN.{length}
+use Rattle.std.specs.Options.{orOther}
 use Rattle.std.proofs.shelf.Tests.{cases-lt}
 use Rattle.std.specs.Finite.{nth}
 use Rattle.std.specs.declared.option.Option.{Option}
@@ -20,7 +21,7 @@ use Rattle.jobs.specs.declared.turn.Outcome.{Outcome}
 use Rattle.jobs.specs.declared.turn.Outcome.the-variants as outcome
 use Rattle.jobs.specs.declared.turn.Turn.{Turn}
 use Rattle.jobs.specs.declared.turn.Turn.the-variants.{Went, Stuck, Ended}
-use Rattle.jobs.specs.Alone.{Alone, Ends, begun, turn, turn-at, turns, after-turns, applied, newest, or-else, take-in, join}
+use Rattle.jobs.specs.Alone.{Alone, Ends, begun, turn, turn-at, turns, after-turns, applied, newest, take-in, join}
 use Rattle.jobs.specs.Doing.{answer, answer-at, left, left-at, went-if, Done, go-on, done, Not-ending, Means}
 use Rattle.jobs.specs.Meanings.{Meaning}
 use Rattle.jobs.proofs.Endings.{at, Before, next, never}
@@ -70,7 +71,7 @@ module _ {V S : Type 0} (m : Meaning V S) (values : List V) (a : Alone V S) wher
   sort-write on l v false room = (on, refl, refl)
 
   sort-at : (q : Request V) → m .request (a .state) ≡ q → Sort (turn-at m values a q) (left-at m values a q) (answer-at m values a q)
-  sort-at (Read l) e = sort-read (reading m values (a .state) (a .writes) l e) (or-else (newest (a .writes) l) (nth values l))
+  sort-at (Read l) e = sort-read (reading m values (a .state) (a .writes) l e) (orOther (newest (a .writes) l) (nth values l))
   sort-at (Write l v) e = sort-write (writing m values (a .state) (a .writes) l v e) l v (ltb l (length values)) (ltb (length (a .writes)) 16)
   sort-at (End code number) e = (e, refl)
 

@@ -6,6 +6,7 @@ use Prim.Native.Nat.{ℕ, zero, suc, _<_}
 use native.Mathlib.Omega.{arith}
 use lib.Dec.{eqb, ltb}
 use lib.ListN.{length}
+use Rattle.std.specs.Options.{orOther}
 use Rattle.std.specs.Finite.{nth}
 use Rattle.std.specs.declared.option.Option.{Option}
 use Rattle.std.specs.declared.option.Option.the-variants.{Some, None}
@@ -15,7 +16,7 @@ use Rattle.jobs.specs.declared.request.Request.{Request}
 use Rattle.jobs.specs.declared.request.Request.the-variants.{Read, Write, End}
 use Rattle.jobs.specs.declared.beside.Either.the-variants.{First, Second}
 use Rattle.jobs.specs.Meanings.{Meaning}
-use Rattle.jobs.specs.Alone.{Alone, Ends, begun, take-in, join, turn, turn-at, turns, or-else, newest, applied}
+use Rattle.jobs.specs.Alone.{Alone, Ends, begun, take-in, join, turn, turn-at, turns, newest, applied}
 use Rattle.jobs.specs.Pairs.{beside, lowered, Ends-as-its-own}
 
 -- a family whose states are states of another, in which they ask for and do the same
@@ -33,7 +34,7 @@ module _ {V S T : Type 0} (m : Meaning V S) (n : Meaning V T) (f : S → T) (ask
   joined a l v false = refl
 
   turned-at : (values : List V) (a : Alone V S) (q : Request V) → turn-at n values (lifted a) q ≡ lifted (turn-at m values a q)
-  turned-at values a (Read l) = taken a (or-else (newest (a .writes) l) (nth values l))
+  turned-at values a (Read l) = taken a (orOther (newest (a .writes) l) (nth values l))
   turned-at values a (Write l v) = joined a l v (ltb l (length values) && ltb (length (a .writes)) 16)
   turned-at values a (End code number) = refl
 

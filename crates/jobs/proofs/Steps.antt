@@ -7,6 +7,7 @@ use Prim.Native.Nat.{ℕ, _<_, _≤_}
 use native.Mathlib.Omega.{arith}
 use lib.Dec.{ltb}
 use lib.ListN.{length}
+use Rattle.std.specs.Options.{orOther}
 use Rattle.std.specs.Finite.{nth}
 use Rattle.std.specs.declared.option.Option.{Option}
 use Rattle.std.specs.declared.option.Option.the-variants.{Some, None}
@@ -15,7 +16,7 @@ use Rattle.std.proofs.shelf.Tests.{cases-lt, lt-ltb, le-ltb, and-from, and-left
 use Rattle.jobs.specs.declared.request.Request.{Request}
 use Rattle.jobs.specs.declared.request.Request.the-variants.{Read, Write, End}
 use Rattle.jobs.specs.declared.written.Written.{Written}
-use Rattle.jobs.specs.Alone.{Alone, turn, turn-at, take-in, join, newest, or-else}
+use Rattle.jobs.specs.Alone.{Alone, turn, turn-at, take-in, join, newest}
 use Rattle.jobs.specs.Doing.{Not-ending}
 use Rattle.jobs.specs.Meanings.{Meaning}
 
@@ -34,7 +35,7 @@ module _ {V S : Type 0} (m : Meaning V S) (values : List V) (s : S) (ws : List (
   abbrev pub job : Alone V S
   job = record { state = s; writes = ws }
 
-  pub reads : (l : ℕ) (v : V) → m .request s ≡ Read l → or-else (newest ws l) (nth values l) ≡ Some v → turn m values job ≡ record { state = m .after-read s v; writes = ws }
+  pub reads : (l : ℕ) (v : V) → m .request s ≡ Read l → orOther (newest ws l) (nth values l) ≡ Some v → turn m values job ≡ record { state = m .after-read s v; writes = ws }
   reads l v e f = ap (turn-at m values job) e ∙ ap (take-in m job) f
 
   pub writes : (l : ℕ) (v : V) → m .request s ≡ Write l v → l < length values → length ws < 16
@@ -42,7 +43,7 @@ module _ {V S : Type 0} (m : Meaning V S) (values : List V) (s : S) (ws : List (
   writes l v e h r =
       ap (turn-at m values job) e ∙ ap (join m job l v) (and-from (ltb l (length values)) (ltb (length ws) 16) (lt-ltb l (length values) h) (lt-ltb (length ws) 16 r))
 
-  pub stuck-read : (l : ℕ) → m .request s ≡ Read l → or-else (newest ws l) (nth values l) ≡ None → turn m values job ≡ job
+  pub stuck-read : (l : ℕ) → m .request s ≡ Read l → orOther (newest ws l) (nth values l) ≡ None → turn m values job ≡ job
   stuck-read l e f = ap (turn-at m values job) e ∙ ap (take-in m job) f
 
   pub stuck-write : (l : ℕ) (v : V) → m .request s ≡ Write l v → length values ≤ l → turn m values job ≡ job

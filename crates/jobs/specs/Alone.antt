@@ -5,6 +5,7 @@ use mathlib.Core.List.{List, [], _∷_}
 use Prim.Native.Nat.{ℕ, zero, suc}
 use lib.Dec.{eqb, ltb}
 use lib.ListN.{length, set}
+use Rattle.std.specs.Options.{orOther}
 use Rattle.std.specs.Finite.{nth}
 use Rattle.std.specs.declared.option.Option.{Option}
 use Rattle.std.specs.declared.option.Option.the-variants.{Some, None}
@@ -25,11 +26,6 @@ module _ {V : Type 0} where
   applied [] values = values
   applied (w ∷ ws) values = set (applied ws values) (w .line) (w .value)
 
-  -- the first value, else the second
-  abbrev pub or-else : Option V → Option V → Option V
-  or-else (Some v) other = Some v
-  or-else None other = other
-
 -- a job done alone: its state and its writes
 pub record Alone (V S : Type 0) : Type 0 where
   pub state : S
@@ -49,7 +45,7 @@ module _ {V S : Type 0} (m : Meaning V S) where
 
   -- a read gets the newest own write to the line, else the list's value; a line that the list lacks, or a seventeenth write, changes nothing
   abbrev pub turn-at : List V → Alone V S → Request V → Alone V S
-  turn-at values a (Read l) = take-in a (or-else (newest (a .writes) l) (nth values l))
+  turn-at values a (Read l) = take-in a (orOther (newest (a .writes) l) (nth values l))
   turn-at values a (Write l v) = join a l v (ltb l (length values) && ltb (length (a .writes)) 16)
   turn-at values a (End code number) = a
 

@@ -5,6 +5,7 @@ use mathlib.Core.List.{List, [], _∷_, reverse}
 use Prim.Native.Nat.{ℕ, zero, suc, _<_}
 use lib.Dec.{ltb}
 use lib.ListN.{length}
+use Rattle.std.specs.Options.{orOther}
 use Rattle.std.specs.Finite.{nth}
 use Rattle.std.specs.Of.Vec.{vec-items}
 use Rattle.std.specs.declared.option.Option.{Option}
@@ -20,7 +21,7 @@ use Rattle.jobs.specs.declared.turn.Outcome.{Outcome}
 use Rattle.jobs.specs.declared.turn.Outcome.the-variants as outcome
 use Rattle.jobs.specs.declared.turn.Turn.{Turn}
 use Rattle.jobs.specs.declared.turn.Turn.the-variants.{Went, Stuck, Ended}
-use Rattle.jobs.specs.Alone.{Alone, Ends, newest, applied, or-else, begun, turn, after-turns}
+use Rattle.jobs.specs.Alone.{Alone, Ends, newest, applied, begun, turn, after-turns}
 use Rattle.jobs.specs.Meanings.{Meaning}
 
 -- a job as the theory has it: its writes with the newest first
@@ -34,7 +35,7 @@ went-if None = Stuck NoLine
 module _ {V S : Type 0} (m : Meaning V S) where
   -- a request to a line that is not there, or for a seventeenth write, is stuck
   abbrev pub answer-at : List V → Alone V S → Request V → Turn
-  answer-at values a (Read l) = went-if (or-else (newest (a .writes) l) (nth values l))
+  answer-at values a (Read l) = went-if (orOther (newest (a .writes) l) (nth values l))
   answer-at values a (Write l v) = cond (ltb l (length values)) (cond (ltb (length (a .writes)) 16) Went (Stuck TooManyWrites)) (Stuck NoLine)
   answer-at values a (End code number) = Ended code number
 

@@ -6,8 +6,9 @@ ghost use mathlib.Core.List.{_∷_};
 ghost use Prim.Native.Nat.{_<_};
 ghost use Rattle.std.specs.Finite.{nth};
 ghost use Rattle.std.specs.Of.Vec.{vec-len};
+ghost use Rattle.std.specs.Options.{orOther};
 ghost use Rattle.std.specs.Vec.{made};
-ghost use Rattle.jobs.specs.Alone.{begun, turn, turn-at, newest, or-else};
+ghost use Rattle.jobs.specs.Alone.{begun, turn, turn-at, newest};
 ghost use Rattle.jobs.specs.Doing.{alone, answer, answer-at, left};
 ghost use Rattle.jobs.specs.declared.request.Request.the-variants.{Read, Write};
 use super::Job;
@@ -44,7 +45,7 @@ impl<S: Copy, V: Copy> Job<S, V> {
 
     // The newest own write to a line, else the book's value.
     fn value_of<B: Book<Value = V>>(&self, book: &B, line: u32) -> Option<V>
-        ensures { λ r. ⌜ r ≡ or-else (newest (alone (now (self .entry)) .writes) line) (nth (B·Book .lines (now (book .entry))) line) ⌝ }
+        ensures { λ r. ⌜ r ≡ orOther (newest (alone (now (self .entry)) .writes) line) (nth (B·Book .lines (now (book .entry))) line) ⌝ }
     {
         if let Some(value) = newest_write(self.writes.as_slice(), line) {
             return Some(value);
