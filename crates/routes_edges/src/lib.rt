@@ -1,0 +1,3 @@
+// Route jobs at their edges, and against another method.
+#[cfg(test)]
+mod tests;

@@ -1,0 +1,4 @@
+mod made;
+mod orders;
+mod tables;
+mod turns;
