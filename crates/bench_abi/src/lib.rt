@@ -1,4 +1,6 @@
 // The reader of turn lists, and route jobs done alone, for a program in another language to time and compare.
+#![tactic(auto)]
+
 ghost use Rattle.std.specs.Prelude.{◌≡◌};
 ghost use Rattle.script.specs.Numbers.{number_of};
 ghost use Rattle.bench_abi.specs.Sums.{item_sum, list_sum, number_or_none};

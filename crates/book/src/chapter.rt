@@ -40,7 +40,7 @@ impl<B: Book> Chapter<B> {
     // A chapter of this chapter, as a chapter of the book below.
     pub fn narrow(self, first: usize, count: usize) -> Chapter<B>
         ensures below { result.below ≡ self.below }
-        ensures lines { part result.first result.count (lines self.below) ≡ part first count (part self.first self.count (lines self.below)) }
+        ensures lines { part result.first result.count (B.lines self.below) ≡ part first count (part self.first self.count (B.lines self.below)) }
     {
         let (first, count) = self.part_extent(first, count);
         Chapter {
@@ -52,10 +52,10 @@ impl<B: Book> Chapter<B> {
 
     // The line below on which the chapter begins, and how many lines it has.
     fn extent(&self) -> (usize, usize)
-        ensures start { result.0 ≡ min self.now.first (length (lines self.now.below)) }
-        ensures size { result.1 ≡ length (part self.now.first self.now.count (lines self.now.below)) }
+        ensures start { result.0 ≡ min self.now.first (length (B.lines self.now.below)) }
+        ensures size { result.1 ≡ length (part self.now.first self.now.count (B.lines self.now.below)) }
         ensures bound { result.0 + result.1 ≤ 1024 }
-        ensures part { IsPart self.now.first self.now.count (lines self.now.below) (part self.now.first self.now.count (lines self.now.below)) }
+        ensures part { IsPart self.now.first self.now.count (B.lines self.now.below) (part self.now.first self.now.count (B.lines self.now.below)) }
     {
         let size = self.below.size();
         let start = self.first.min(size);
@@ -64,7 +64,7 @@ impl<B: Book> Chapter<B> {
 
     // The first line and the count below of a part of this chapter.
     fn part_extent(&self, first: usize, count: usize) -> (usize, usize)
-        ensures { part result.0 result.1 (lines self.now.below) ≡ part first count (part self.now.first self.now.count (lines self.now.below)) }
+        ensures { part result.0 result.1 (B.lines self.now.below) ≡ part first count (part self.now.first self.now.count (B.lines self.now.below)) }
     {
         let (start, size) = self.extent();
         let skipped = first.min(size);
@@ -73,7 +73,7 @@ impl<B: Book> Chapter<B> {
 
     // The line below that a line of the chapter is, where it has that line.
     fn line_below(&self, line: usize) -> Option<usize>
-        ensures { FindsBelow self.now.first self.now.count (lines self.now.below) line result }
+        ensures { FindsBelow self.now.first self.now.count (B.lines self.now.below) line result }
     {
         let (start, size) = self.extent();
         if line < size {

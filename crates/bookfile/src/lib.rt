@@ -1,4 +1,6 @@
 // The book file: n lines and m pairs, then m line numbers, then m values, all little-endian.
+#![tactic(auto)]
+
 mod bytes;
 mod check;
 pub mod copy;

@@ -1,4 +1,6 @@
 // Families of jobs, and jobs done alone.
+#![tactic(auto)]
+
 pub mod alone;
 pub mod beside;
 pub mod family;

@@ -1,3 +1,5 @@
 // Examples of jobs done alone.
+#![tactic(auto)]
+
 #[cfg(test)]
 mod tests;

@@ -1,4 +1,6 @@
 // What the programs do between reading and printing.
+#![tactic(auto)]
+
 pub mod files;
 pub mod memory;
 pub mod show;

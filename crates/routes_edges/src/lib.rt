@@ -1,3 +1,5 @@
 // Route jobs at their edges, and against another method.
+#![tactic(auto)]
+
 #[cfg(test)]
 mod tests;

@@ -1,4 +1,6 @@
 // The turn list, read where it lies, and the listing's bytes.
+#![tactic(auto)]
+
 pub mod book_fault;
 pub mod call_line;
 pub mod command;

@@ -1,4 +1,6 @@
 // Prints the book in the file `book`; the gate runs it on a book of rope.
+#![tactic(auto)]
+
 use programs::viewer::run;
 
 fn main(rt: HostRuntime) -> anyhow::Result<()> {

@@ -1,4 +1,6 @@
 // What a survey book is about: legs and metres of rope, their ranges, their rows and their bytes.
+#![tactic(auto)]
+
 pub mod bytes;
 pub mod fault;
 pub mod leg;
