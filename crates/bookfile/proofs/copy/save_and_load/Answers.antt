@@ -4,22 +4,22 @@ use Rattle.bookfile.proofs.Kept.{loads_saved}
 use Rattle.bookfile.proofs.Saving.{file_length}
 use Rattle.bookfile.proofs.copy.save_and_load.Goals as goal
 
-pub returns-in-err-size : goal.returns-in-err-size
-returns-in-err-size g c =
-    let p = err_from_is_err_and c.from-residual.result c.from-residual.ensures.1 in
-    let s = c.in-err-size.ensures.saves in
+pub returns-in_err-size : goal.returns-in_err-size
+returns-in_err-size g c =
+    let p = err_from_is_err_and c.from_residual.result c.from_residual.ensures.1 in
+    let s = c.in_err-size.ensures.saves in
     let long = file_length g.R.Row.format g.met.R.Row.sound (g.B.Book.lines c.args.from.now) in
     rw (p.1, p.2) (subst (λ n. length c.args.file.now < n) long s.1, s.0, refl)
 
-pub returns-in-err-load : goal.returns-in-err-load
-returns-in-err-load g c =
-    let p = err_from_is_err_and c.from-residual-in-err-load.result c.from-residual-in-err-load.ensures.1 in
-    let s = c.in-ok-size.ensures.saves in
+pub returns-in_err-load : goal.returns-in_err-load
+returns-in_err-load g c =
+    let p = err_from_is_err_and c.from_residual-in_err-load.result c.from_residual-in_err-load.ensures.1 in
+    let s = c.in_ok-size.ensures.saves in
     let lines = g.B.Book.lines c.args.from.now in
-    rw (p.1, p.2) (loads_saved g.R.Row.format g.met.R.Row.sound lines c.save.ensures.few c.in-ok-size.size _ c.args.file.now c.save.new.out (g.C.Book.lines c.args.to.now) (g.C.Book.lines c.load.new.book) (Err c.in-err-load.field-0.0) s.0 (omega arith) s.2 c.in-err-load.ensures.loads)
+    rw (p.1, p.2) (loads_saved g.R.Row.format g.met.R.Row.sound lines c.save.ensures.few c.in_ok-size.size _ c.args.file.now c.save.new.out (g.C.Book.lines c.args.to.now) (g.C.Book.lines c.load.new.book) (Err c.in_err-load.field-0.0) s.0 (omega arith) s.2 c.in_err-load.ensures.loads)
 
 pub returns : goal.returns
 returns g c =
-    let s = c.in-ok-size.ensures.saves in
+    let s = c.in_ok-size.ensures.saves in
     let lines = g.B.Book.lines c.args.from.now in
-    loads_saved g.R.Row.format g.met.R.Row.sound lines c.save.ensures.few c.in-ok-size.size _ c.args.file.now c.save.new.out (g.C.Book.lines c.args.to.now) (g.C.Book.lines c.load.new.book) (Ok tt) s.0 (omega arith) s.2 c.in-ok-load.ensures.loads
+    loads_saved g.R.Row.format g.met.R.Row.sound lines c.save.ensures.few c.in_ok-size.size _ c.args.file.now c.save.new.out (g.C.Book.lines c.args.to.now) (g.C.Book.lines c.load.new.book) (Ok tt) s.0 (omega arith) s.2 c.in_ok-load.ensures.loads

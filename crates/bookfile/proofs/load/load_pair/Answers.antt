@@ -5,6 +5,6 @@ use Rattle.bookfile.proofs.load.load_pair.Goals as goal
 pub returns : goal.returns
 returns g c =
     let lines = g.B.Book.lines c.args.book.now in
-    let written : g.B.Book.lines c.write.new.self ≡ set lines c.two-at-line.result c.row-at-row.result =
-    writes_set lines c.two-at-line.result c.row-at-row.result (g.B.Book.lines c.write.new.self) c.write.result c.write.ensures in
+    let written : g.B.Book.lines c.write.new.self ≡ set lines c.two_at-line.result c.row_at-row.result =
+    writes_set lines c.two_at-line.result c.row_at-row.result (g.B.Book.lines c.write.new.self) c.write.result c.write.ensures in
     cc

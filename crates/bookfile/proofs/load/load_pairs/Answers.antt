@@ -5,7 +5,7 @@ use Rattle.bookfile.proofs.load.load_pairs.Goals as goal
 
 pub loop-pair-preserved : goal.loop-pair-preserved
 loop-pair-preserved g c =
-    ap (loaded g.R.Row.format c.args.pairs c.args.bytes.now (c.loop-pair.pair + 1) (c.args.pairs - (c.loop-pair.pair + 1))) c.load-pair.ensures
+    ap (loaded g.R.Row.format c.args.pairs c.args.bytes.now (c.loop-pair.pair + 1) (c.args.pairs - (c.loop-pair.pair + 1))) c.load_pair.ensures
     ∙ sym (loaded_on _ _ _ c.loop-pair.pair (g.B.Book.lines c.loop-pair.book) c.loop-pair-test.true) ∙ c.loop-pair.invariant
 
 pub returns : goal.returns

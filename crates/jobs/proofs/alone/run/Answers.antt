@@ -12,7 +12,7 @@ returns-in-Stuck g c =
     let a = alone c.loop-turn.job in
     let same = c.loop-turn.invariant.0 in
     let said : Stuck c.in-Stuck.refusal ≡ answer m values a = c.in-Stuck.ensures.answer ∙ ap (λ v. answer m v a) same in
-    let end = sym c.loop-turn.invariant.1 ∙ stuck m values c.args.turns c.loop-turn.-turn c.loop-turn-test.true a c.in-Stuck.refusal said in
+    let end = sym c.loop-turn.invariant.1 ∙ stuck m values c.args.turns c.loop-turn._turn c.loop-turn-test.true a c.in-Stuck.refusal said in
     record {
       outcome = sym (ap (λ d. d.outcome) end);
       values = c.in-Stuck.ensures.left ∙ (ap (λ v. left m v a) same ∙ sym (ap (λ d. d.values) end));
@@ -25,7 +25,7 @@ returns-in-Ended g c =
     let a = alone c.loop-turn.job in
     let same = c.loop-turn.invariant.0 in
     let said : Ended c.in-Ended.code c.in-Ended.number ≡ answer m values a = c.in-Ended.ensures.answer ∙ ap (λ v. answer m v a) same in
-    let end = sym c.loop-turn.invariant.1 ∙ ended m values c.args.turns c.loop-turn.-turn c.loop-turn-test.true a c.in-Ended.code c.in-Ended.number said in
+    let end = sym c.loop-turn.invariant.1 ∙ ended m values c.args.turns c.loop-turn._turn c.loop-turn-test.true a c.in-Ended.code c.in-Ended.number said in
     record {
       outcome = sym (ap (λ d. d.outcome) end);
       values = c.in-Ended.ensures.left ∙ (ap (λ v. left m v a) same ∙ sym (ap (λ d. d.values) end));
@@ -38,8 +38,8 @@ loop-turn-preserved g c =
     let a = alone c.loop-turn.job in
     let same = c.loop-turn.invariant.0 in
     let said : Went ≡ answer m values a = c.in-Went.ensures.answer ∙ ap (λ v. answer m v a) same in
-    let on : done m values (c.args.turns - (c.loop-turn.-turn + 1)) (turn m values a) ≡ done m values c.args.turns (alone c.args.job.now) =
-    sym (went m values c.args.turns c.loop-turn.-turn c.loop-turn-test.true a said) ∙ c.loop-turn.invariant.1 in (
+    let on : done m values (c.args.turns - (c.loop-turn._turn + 1)) (turn m values a) ≡ done m values c.args.turns (alone c.args.job.now) =
+    sym (went m values c.args.turns c.loop-turn._turn c.loop-turn-test.true a said) ∙ c.loop-turn.invariant.1 in (
       c.in-Went.ensures.left ∙ (ap (λ v. left m v a) same ∙ went_leaves m values a (sym said)),
-      ap (done m values (c.args.turns - (c.loop-turn.-turn + 1))) (c.in-Went.ensures.after ∙ ap (λ v. turn m v a) same) ∙ on,
+      ap (done m values (c.args.turns - (c.loop-turn._turn + 1))) (c.in-Went.ensures.after ∙ ap (λ v. turn m v a) same) ∙ on,
     )

@@ -6,5 +6,5 @@ use Rattle.jobs.proofs.alone.run.Given as goal
 abbrev pub invariant-loop-turn : goal.invariant-loop-turn
 invariant-loop-turn g l =
     (g.B.Book.lines l.book ≡ g.B.Book.lines l.initial.book)
-    × (done (g.F.Family.meaning l.family) (g.B.Book.lines l.initial.book) (l.turns - l.-turn) (alone l.job)
+    × (done (g.F.Family.meaning l.family) (g.B.Book.lines l.initial.book) (l.turns - l._turn) (alone l.job)
     ≡ done (g.F.Family.meaning l.family) (g.B.Book.lines l.initial.book) l.turns (alone l.initial.job))

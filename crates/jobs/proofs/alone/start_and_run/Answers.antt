@@ -11,7 +11,7 @@ returns g c =
     let values = g.B.Book.lines c.args.book.now in
     let o = c.args.order in
     let k = c.args.turns in
-    let begins = c.in-ok-job.ensures in
+    let begins = c.in_ok-job.ensures in
     let came = c.run.ensures.outcome ∙ ap (λ a. (done m values k a).outcome) begins in
     let after = c.run.ensures.values ∙ ap (λ a. (done m values k a).values) begins in
     record {

@@ -7,4 +7,4 @@ returns g c =
     let blank = g.R.Row.format.blank in
     let n = c.stated_lines.result in
     let few : length (replicate n blank) ≤ 1024 = omega (arith, length-replicate n blank) in
-    ap (take 1024) c.in-ok-rows.ensures ∙ (take_all 1024 (replicate n blank) few ∙ ap (λ k. replicate k blank) c.stated_lines.ensures.value)
+    ap (take 1024) c.in_ok-rows.ensures ∙ (take_all 1024 (replicate n blank) few ∙ ap (λ k. replicate k blank) c.stated_lines.ensures.value)

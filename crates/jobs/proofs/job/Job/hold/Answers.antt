@@ -5,4 +5,4 @@ use Rattle.jobs.proofs.job.Job.hold.Goals as goal
 pub returns : goal.returns
 returns g c =
     let writes = vec_items c.args.self.now.writes in
-    ap (λ l. record { state = c.args.self.now.state; writes = l }) (ap reverse c.push-reserved.ensures.items ∙ reverse-append writes (c.args.write ∷ []))
+    ap (λ l. record { state = c.args.self.now.state; writes = l }) (ap reverse c.push_reserved.ensures.items ∙ reverse-append writes (c.args.write ∷ []))

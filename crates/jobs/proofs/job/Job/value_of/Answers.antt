@@ -9,5 +9,5 @@ pub returns-in-Err : goal.returns-in-Err
 returns-in-Err g c =
     let values = g.B.Book.lines c.args.book.now in
     let line = c.args.line in
-    let unwritten = c.in-default.ensures ∙ ap (λ l. newest (reverse l) line) c.as-slice.ensures.value in
+    let unwritten = c.in_default.ensures ∙ ap (λ l. newest (reverse l) line) c.as_slice.ensures.value in
     sym (slice_get_past values line c.in-Err.ensures.0) ∙ ap (λ o. option_or o (slice_get values line)) unwritten
