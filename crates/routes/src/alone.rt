@@ -19,7 +19,7 @@ const MOST_PASSES: u32 = 15;
 
 // One turn of a search on a book, or nothing where the turn changes nothing.
 fn take_turn<B: Book<Value = LegRow>>(book: &B, state: Search) -> Option<Search>
-    ensures { Turned (lines book.now) state result }
+    ensures { Turned (B.lines book.now) state result }
 {
     match Route.request(state) {
         Request::Read { line } => match book.read(line as usize) {
@@ -33,7 +33,7 @@ fn take_turn<B: Book<Value = LegRow>>(book: &B, state: Search) -> Option<Search>
 
 // So many turns of a search on a book.
 fn take_turns<B: Book<Value = LegRow>>(book: &B, first: Search, count: u32) -> Search
-    ensures { turns route_family (lines book.now) count (still first) ≡ still result }
+    ensures { turns route_family (B.lines book.now) count (still first) ≡ still result }
 {
     let mut state = first;
     for _turn in 0..count {
@@ -48,8 +48,8 @@ fn take_turns<B: Book<Value = LegRow>>(book: &B, first: Search, count: u32) -> S
 // What the job of an order answers on a book that has its lines.
 fn answer<B: Book<Value = LegRow>>(book: &B, order: Order) -> Option<u32>
     requires good { bad_order order ≡ false }
-    requires enough { order.c ≤ length (lines book.now) }
-    ensures { Answers (legs_of (lines book.now) order.c) order.a order.b result }
+    requires enough { order.c ≤ length (B.lines book.now) }
+    ensures { Answers (legs_of (B.lines book.now) order.c) order.a order.b result }
 {
     let first = Route.start(order);
     let last = take_turns(book, first, MOST_PASSES * order.c);
@@ -58,7 +58,7 @@ fn answer<B: Book<Value = LegRow>>(book: &B, order: Order) -> Option<u32>
 
 // What the job of an order answers on a book, or why it is not searched.
 fn search<B: Book<Value = LegRow>>(book: &B, order: Order) -> Result<Option<u32>, SearchRefusal>
-    ensures { Answered (lines book.now) order result }
+    ensures { Answered (B.lines book.now) order result }
 {
     if is_bad(order) {
         return Err(SearchRefusal::BadOrder);
@@ -82,7 +82,7 @@ pub fn least_route<B: Book<Value = LegRow>>(
     to: u32,
     count: u32,
 ) -> Result<Option<u32>, SearchRefusal>
-    ensures answer { Answered (lines book.now) (route_order from to count) result }
+    ensures answer { Answered (B.lines book.now) (route_order from to count) result }
     ensures searches { SearchesAreRight }
     ensures ended { EndedSearchesAreRight }
 {
