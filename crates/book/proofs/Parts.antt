@@ -1,5 +1,5 @@
 -- Parts of a list: their elements, and what a write to one leaves of the whole.
-use Rattle.std.proofs.Common.{◌≡◌, ℕ, zero, suc, ◌+◌, ◌-◌, ◌<◌, ◌≤◌, min, List, [], ◌∷◌, length, take, drop, set, Some, Ok, Err, Option, Result, sym, refl, ap, ◌∙◌, subst, suc-add, zero-add, add-one, arith}
+use Rattle.std.proofs.Common.{◌≡◌, ℕ, zero, suc, ◌+◌, ◌-◌, ◌<◌, ◌≤◌, min, List, [], ◌∷◌, length, take, drop, set, Some, Ok, Err, Option, Result, sym, refl, ap, ◌∙◌, subst, suc-add, zero-add, arith}
 use Rattle.std.specs.List.{slice_get}
 use Rattle.std.proofs.lemmas.List.{length-take, length-drop, drop-set-add}
 use Rattle.book.specs.declared.refusal.BookRefusal.{BookRefusal}

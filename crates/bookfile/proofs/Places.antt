@@ -1,5 +1,5 @@
 -- Where the pairs of a file lie.
-use Rattle.std.proofs.Common.{◌≡◌, ℕ, ◌+◌, ◌*◌, ◌<◌, ◌≤◌, mul-le-mul, mul-le-mul_left, mul-one, mul-add, arith}
+use Rattle.std.proofs.Common.{ℕ, ◌+◌, ◌*◌, ◌<◌, ◌≤◌, mul-le-mul_left, mul-one, mul-add, arith}
 
 -- the value of pair i ends within those of m pairs
 pub value_fits : (w m i : ℕ) → i < m → w * i + w ≤ w * m

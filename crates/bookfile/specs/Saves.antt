@@ -1,5 +1,5 @@
 -- The file of a book, and what saving answers and leaves.
-use Rattle.std.specs.Prelude.{◌≡◌, ℕ, zero, suc, ◌<◌, ◌≤◌, List, [], ◌++◌, map, length, drop, Ok, Err, Result, refl}
+use Rattle.std.specs.Prelude.{◌≡◌, ℕ, zero, suc, ◌<◌, ◌≤◌, List, [], ◌++◌, map, length, drop, Ok, Err, Result}
 use Rattle.std.specs.List.{flat_map}
 use Rattle.survey.specs.Bytes.{two_bytes}
 use Rattle.survey.specs.Formats.{Format, or_blank}

@@ -1,20 +1,20 @@
 -- What an entry does alone.
-use Rattle.std.proofs.Common.{◌≡◌, ℕ, suc, ◌<◌, ◌≤◌, true, false, cond, eqb, List, [], ◌∷◌, length, set, Some, None, Option, sym, refl, ap, ◌∙◌, subst, inl, inr, arith}
+use Rattle.std.proofs.Common.{◌≡◌, ℕ, suc, ◌<◌, List, [], ◌∷◌, length, set, Some, None, Option, sym, refl, ap, ◌∙◌, subst, inl, inr, arith}
 use Rattle.std.specs.List.{slice_get}
-use Rattle.std.proofs.lemmas.Bool.{cases_lt, cases_eq, eq-eqb, ne_eqb, lt-ltb}
+use Rattle.std.proofs.lemmas.Bool.{cases_lt, cases_eq, eq-eqb, ne_eqb}
 use Rattle.survey.specs.declared.fault.ValueFault.{ValueFault}
 use Rattle.survey.specs.declared.leg.LegRow.{LegRow}
 use Rattle.survey.specs.Faults.{number}
 use Rattle.survey.specs.Formats.{or_blank}
 use Rattle.survey.specs.Legs.{leg_fault, leg_format, closed_row}
 use Rattle.calls.specs.declared.order.Order.{Order}
-use Rattle.jobs.specs.Alone.{Alone, Ends, begun, turn, turns, after_turns, applied}
+use Rattle.jobs.specs.Alone.{Alone, Ends, turn, after_turns, applied}
 use Rattle.jobs.specs.Doing.{NotEnding}
 use Rattle.jobs.proofs.Endings.{ends_once, never_ends}
 use Rattle.jobs.proofs.Steps.{there, reads, writes, stuck_read, stuck_write, reading, writing}
 use Rattle.families.specs.declared.entry.EntryState.{EntryState}
 use Rattle.families.specs.declared.entry.EntryState.TheVariants.{Closing, Writing, Ended}
-use Rattle.families.specs.Entries.{entry, entry_first, entry_request, asked_leg, unless_impossible}
+use Rattle.families.specs.Entries.{entry, entry_first, entry_request, asked_leg}
 use Rattle.families.specs.Laws.{Entered, enters, impossible, closes, unknown, EntriesAreRight}
 
 module _ (o : Order) (values : List LegRow) where

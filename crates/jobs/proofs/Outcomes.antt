@@ -1,18 +1,16 @@
 -- What comes of a job, turn by turn, and what that says of its order.
-use Rattle.std.proofs.Common.{◌≡◌, ℕ, zero, suc, ◌+◌, ◌-◌, ◌<◌, Bool, true, false, cond, ◌&&◌, ltb, List, length, Some, None, Option, sym, refl, ap, ◌∙◌, subst, inl, inr, arith}
+use Rattle.std.proofs.Common.{◌≡◌, ℕ, zero, suc, ◌+◌, ◌-◌, ◌<◌, Bool, true, false, cond, ◌&&◌, ltb, List, length, Some, None, Option, sym, refl, ap, ◌∙◌, subst, arith}
 use Rattle.std.specs.Option.{option_or}
-use Rattle.std.proofs.lemmas.Bool.{cases_lt}
 use Rattle.std.specs.List.{slice_get}
 use Rattle.calls.specs.declared.order.Order.{Order}
 use Rattle.calls.specs.declared.refusal.Refusal.{Refusal}
 use Rattle.calls.specs.declared.refusal.Refusal.TheVariants.{NoLine, TooManyWrites}
 use Rattle.jobs.specs.declared.request.Request.{Request}
 use Rattle.jobs.specs.declared.request.Request.TheVariants.{Read, Write, End}
-use Rattle.jobs.specs.declared.turn.Outcome.{Outcome}
 use Rattle.jobs.specs.declared.turn.Outcome.TheVariants as outcome
 use Rattle.jobs.specs.declared.turn.Turn.{Turn}
 use Rattle.jobs.specs.declared.turn.Turn.TheVariants.{Went, Stuck, Ended}
-use Rattle.jobs.specs.Alone.{Alone, Ends, begun, turn, turn_at, turns, after_turns, applied, newest, take_in, join}
+use Rattle.jobs.specs.Alone.{Alone, begun, turn, turn_at, applied, newest, take_in, join}
 use Rattle.jobs.specs.Doing.{answer, answer_at, left, left_at, went_if, Done, go_on, done, NotEnding, Means}
 use Rattle.jobs.specs.Meanings.{Meaning}
 use Rattle.jobs.proofs.Endings.{at, Before, next, never}

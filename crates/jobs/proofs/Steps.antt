@@ -1,11 +1,10 @@
 -- One turn of a job alone, by what it asks for.
-use Rattle.std.proofs.Common.{◌≡◌, ℕ, ◌<◌, ◌≤◌, true, false, ◌&&◌, ltb, List, ◌∷◌, length, Some, None, Option, sym, refl, ap, ◌∙◌, inl, inr, arith}
+use Rattle.std.proofs.Common.{◌≡◌, ℕ, ◌<◌, ◌≤◌, ltb, List, ◌∷◌, length, Some, None, ap, ◌∙◌, inl, inr, arith}
 use Rattle.std.specs.Option.{option_or}
 use Rattle.std.specs.List.{slice_get}
 use Rattle.std.proofs.lemmas.Option.{slice_get_past}
 use Rattle.std.proofs.lemmas.Bool.{cases_lt, lt-ltb, le-ltb, and_from, and_left}
-use Rattle.jobs.specs.declared.request.Request.{Request}
-use Rattle.jobs.specs.declared.request.Request.TheVariants.{Read, Write, End}
+use Rattle.jobs.specs.declared.request.Request.TheVariants.{Read, Write}
 use Rattle.jobs.specs.declared.written.Written.{Written}
 use Rattle.jobs.specs.Alone.{Alone, turn, turn_at, take_in, join, newest}
 use Rattle.jobs.specs.Doing.{NotEnding}

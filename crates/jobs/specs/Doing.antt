@@ -1,5 +1,5 @@
 -- What each turn of a job alone answers, and what comes of the job.
-use Rattle.std.specs.Prelude.{◌≡◌, ℕ, zero, suc, ◌<◌, cond, List, [], ◌∷◌, reverse, length, Some, None, Ok, Err, vec_items, Option, Result, ◌≢◌, nat_lt}
+use Rattle.std.specs.Prelude.{◌≡◌, ℕ, zero, suc, ◌<◌, cond, List, reverse, length, Some, None, Ok, Err, vec_items, Option, Result, ◌≢◌, nat_lt}
 use Rattle.std.specs.Option.{option_or}
 use Rattle.std.specs.List.{slice_get}
 use Rattle.calls.specs.declared.order.Order.{Order}

@@ -1,5 +1,5 @@
 -- Parts put together again. Assumes nothing.
-use Rattle.std.proofs.Common.{◌≡◌, ℕ, suc, ◌+◌, ◌<◌, ◌≤◌, Bool, true, false, cond, not, ◌&&◌, eqb, List, [], ◌∷◌, ◌++◌, length, sym, refl, ap, ◌∙◌, ⊎_elim, arith}
+use Rattle.std.proofs.Common.{◌≡◌, ℕ, true, false, not, eqb, List, [], ◌∷◌, ◌++◌, length, sym, refl, ap, ◌∙◌, ⊎_elim, arith}
 use Rattle.std.proofs.lemmas.Bool.{cond-true, cond-false, cases_Bool, eqb-true, eq-eqb, and_parts, and_from, not-true, not_from_false}
 use Rattle.script.specs.Cuts.{onto, cut, words, lines_of, joined_by, ended_by, closed_by, free, all_free, LinesOfBytes, WordsOfLine}
 use Rattle.script.proofs.Parts.{word_step, line_step}

@@ -1,5 +1,5 @@
 -- Lines that are calls are what the calls show, and other lines are wrong as they are told. Assumes nothing.
-use Rattle.std.proofs.Common.{◌≡◌, ℕ, ◌+◌, ◌^◌, ◌<◌, Bool, true, false, cond, eqb, List, [], ◌∷◌, ◌++◌, map, length, get_or, Some, None, Ok, Err, decimal, Option, Result, sym, refl, ap, ◌∙◌, subst, ⊎_elim, arith, length-append}
+use Rattle.std.proofs.Common.{◌≡◌, ℕ, ◌+◌, ◌^◌, ◌<◌, true, eqb, List, [], ◌∷◌, ◌++◌, map, length, get_or, Some, None, Ok, Err, decimal, Option, Result, sym, refl, ap, ◌∙◌, subst, ⊎_elim, arith, length-append}
 use lib.ListN.{length-map}
 use Rattle.std.proofs.lemmas.Bool.{cond-true, cond-false, cases_Bool, eqb-true, eqb-false, eq-eqb, ne_eqb, not_from_false, and_from}
 use Rattle.std.proofs.lemmas.Fmt.{decimal_is_IsNumeral}
@@ -13,9 +13,9 @@ use Rattle.script.specs.declared.fault.LineFault.{LineFault}
 use Rattle.script.specs.declared.fault.LineCause.{LineCause}
 use Rattle.script.specs.declared.fault.LineCause.TheVariants.{UnknownLetter, NotNumber, WordCount}
 use Rattle.script.specs.Commands.{in_front, first_number, numbers_in, call_of, called, after_letter, from_letter, line_says}
-use Rattle.script.specs.Cuts.{cut, words, joined_by, ended_by, free, all_free}
+use Rattle.script.specs.Cuts.{words, joined_by, ended_by, free, all_free}
 use Rattle.script.specs.Faults.{fault_at}
-use Rattle.script.specs.Letters.{letter_byte, letter_of, numbers_after}
+use Rattle.script.specs.Letters.{letter_of, numbers_after}
 use Rattle.script.specs.Numbers.{number_of}
 use Rattle.script.specs.Shown.{call_bytes, call_numbers, Small, letter_word, FirstNoNumber, Wrong, Told, ReadsBack}
 use Rattle.script.proofs.Decimals.{number_of_decimal, number_is_decimal, is_writing}

@@ -1,5 +1,5 @@
 use Rattle.std.proofs.Common.{◌≡◌, length}
-use Rattle.script.specs.Turns.{items, items_left}
+use Rattle.script.specs.Turns.{items_left}
 use Rattle.bench_abi.specs.Sums.{sum_from}
 use Rattle.bench_abi.proofs.list_sum.Given as goal
 

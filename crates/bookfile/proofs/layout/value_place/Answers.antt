@@ -1,4 +1,4 @@
-use Rattle.std.proofs.Common.{◌+◌, ◌*◌, ap, arith}
+use Rattle.std.proofs.Common.{◌*◌, ap, arith}
 use Rattle.bookfile.proofs.Places.{value_fits}
 use Rattle.bookfile.proofs.layout.value_place.Goals as goal
 

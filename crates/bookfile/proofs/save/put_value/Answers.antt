@@ -1,7 +1,6 @@
-use Rattle.std.proofs.Common.{◌≡◌, get_or, Some, Option, sym, ap, ◌∙◌, arith}
+use Rattle.std.proofs.Common.{◌≡◌, get_or, ap, ◌∙◌, arith}
 use Rattle.std.proofs.lemmas.Option.{slice_get-get_or}
 use Rattle.survey.specs.Bytes.{pasted}
-use Rattle.survey.specs.Formats.{or_blank}
 use Rattle.survey.proofs.Pastes.{puts_paste}
 use Rattle.bookfile.specs.Saves.{value_bytes}
 use Rattle.bookfile.proofs.save.put_value.Goals as goal

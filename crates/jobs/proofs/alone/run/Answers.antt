@@ -1,6 +1,6 @@
-use Rattle.std.proofs.Common.{◌≡◌, ◌+◌, ◌-◌, List, sym, ap, ◌∙◌, subst}
+use Rattle.std.proofs.Common.{◌≡◌, ◌+◌, ◌-◌, sym, ap, ◌∙◌}
 use Rattle.jobs.specs.Alone.{turn}
-use Rattle.jobs.specs.Doing.{Done, alone, answer, left, done}
+use Rattle.jobs.specs.Doing.{alone, answer, left, done}
 use Rattle.jobs.specs.declared.turn.Turn.TheVariants.{Went, Stuck, Ended}
 use Rattle.jobs.proofs.Outcomes.{went, stuck, ended, went_leaves}
 use Rattle.jobs.proofs.alone.run.Goals as goal

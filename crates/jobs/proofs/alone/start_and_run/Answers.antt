@@ -1,7 +1,6 @@
-use Rattle.std.proofs.Common.{◌≡◌, List, sym, ap, ◌∙◌, subst}
+use Rattle.std.proofs.Common.{sym, ap, ◌∙◌, subst}
 use Rattle.jobs.specs.Alone.{begun}
 use Rattle.jobs.specs.Doing.{done, Means}
-use Rattle.jobs.specs.declared.turn.Outcome.{Outcome}
 use Rattle.jobs.proofs.Outcomes.{means}
 use Rattle.jobs.proofs.alone.start_and_run.Goals as goal
 

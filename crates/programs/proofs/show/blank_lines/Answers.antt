@@ -1,4 +1,4 @@
-use Rattle.std.proofs.Common.{◌≡◌, [], ◌∷◌, ◌++◌, replicate, ap, ◌∙◌}
+use Rattle.std.proofs.Common.{[], ◌∷◌, ◌++◌, replicate, ap, ◌∙◌}
 use Rattle.programs.proofs.Blanks.{replicate_more}
 use Rattle.programs.proofs.show.blank_lines.Goals as goal
 

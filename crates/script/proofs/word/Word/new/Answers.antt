@@ -1,4 +1,4 @@
-use Rattle.std.proofs.Common.{sym, refl, ◌∙◌}
+use Rattle.std.proofs.Common.{sym, refl}
 use Rattle.script.proofs.Letters.{letter_is_no_number}
 use Rattle.script.proofs.word.Word.new.Goals as goal
 
