@@ -5,10 +5,10 @@ ghost use Rattle.survey.specs.Bytes.{Puts};
 pub fn put(out: &mut [u8], place: usize, bytes: &[u8]) -> Option<usize>
     ensures { Puts out.old place bytes.now out.new result }
 {
-    if place > out.len() || bytes.len() > out.len() - place {
+    let end = place.checked_add(bytes.len())?;
+    if end > out.len() {
         return None;
     }
-    let end = place + bytes.len();
     out[place..end].copy_from_slice(bytes);
     Some(end)
 }

@@ -3,7 +3,7 @@ ghost use Rattle.std.specs.Prelude.{◌≤◌};
 
 mod methods;
 
-pub use methods::{CLOSED, LAST_STATION, OPEN};
+pub use methods::LAST_STATION;
 
 // The plain numbers of a leg, with no promise about their ranges; they lie as in C, so that a program in another language can hand in rows.
 #[repr(C)]

@@ -5,4 +5,5 @@ pub mod bytes;
 pub mod fault;
 pub mod leg;
 pub mod metres;
+pub mod passage;
 pub mod row;

@@ -1,12 +1,13 @@
 // How legs are made, read, printed and laid in bytes.
-ghost use Rattle.std.specs.Prelude.{◌≡◌, ◌≤◌, Some};
+ghost use Rattle.std.specs.Prelude.{◌≡◌, ◌≤◌, Some, refl};
 ghost use Rattle.survey.specs.Formats.{Format, Checks};
 ghost use Rattle.survey.specs.Legs.{leg_row, leg_format, leg_text, closed_row, leads};
+ghost use Rattle.survey.specs.Passages.{passage_number};
 ghost use Rattle.std.proofs.Common.{rules};
 
 use super::{Leg, LegRow};
-use crate::bytes::put;
 use crate::fault::ValueFault;
+use crate::passage::Passage;
 use crate::row::Row;
 use std::fmt;
 
@@ -16,14 +17,10 @@ pub const LONGEST: u32 = 10_000_000;
 
 pub const LEG_BYTES: usize = 7;
 
-pub const CLOSED: u8 = 0;
-
-pub const OPEN: u8 = 1;
-
 impl Leg {
-    // The leg of four numbers, or the first range that they break: a station, the length, the passage.
-    pub fn new(from: u32, to: u32, passage: u32, length: u32) -> Result<Leg, ValueFault>
-        ensures { Checks leg_format (λ l. l.row) (leg_row from to passage length) result }
+    // The open leg of three numbers, or the first range that they break: a station, then the length.
+    pub fn open(from: u32, to: u32, length: u32) -> Result<Leg, ValueFault>
+        ensures { Checks leg_format (λ l. l.row) (leg_row from to 1 length) result }
     {
         if from > LAST_STATION || to > LAST_STATION {
             return Err(ValueFault::Station);
@@ -31,16 +28,32 @@ impl Leg {
         if length < 1 || length > LONGEST {
             return Err(ValueFault::Length);
         }
-        if passage > OPEN as u32 {
-            return Err(ValueFault::Passage);
-        }
         let row = LegRow {
             from: from as u8,
             to: to as u8,
-            passage: passage as u8,
+            passage: u8::from(Passage::Open),
             length,
         };
         Ok(Leg { row })
+    }
+
+    // The leg of four numbers, or the first range that they break: a station, the length, the passage.
+    pub fn new(from: u32, to: u32, passage: u32, length: u32) -> Result<Leg, ValueFault>
+        ensures { Checks leg_format (λ l. l.row) (leg_row from to passage length) result }
+    {
+        let open = Leg::open(from, to, length)?;
+        let passage = Passage::try_from(passage)?;
+        Ok(open.with_passage(passage))
+    }
+
+    fn with_passage(&self, passage: Passage) -> Leg
+        ensures { result.row ≡ leg_row self.now.row.from self.now.row.to (passage_number passage) self.now.row.length }
+    {
+        let row = LegRow {
+            passage: u8::from(passage),
+            ..self.row
+        };
+        Leg { row }
     }
 
     pub fn from(&self) -> u8
@@ -57,22 +70,20 @@ impl Leg {
         self.row.to
     }
 
-    pub fn passage(&self) -> u8
-        ensures value { result ≡ self.now.row.passage }
-        ensures bound { result ≤ 1 }
+    pub fn passage(&self) -> Passage
+        ensures { passage_number result ≡ self.now.row.passage }
     {
-        self.row.passage
+        match self.row.passage {
+            0 => Passage::Closed,
+            _ => Passage::Open,
+        }
     }
 
     // The same leg, closed.
     pub fn closed(&self) -> Leg
         ensures { result.row ≡ closed_row self.now.row }
     {
-        let row = LegRow {
-            passage: CLOSED,
-            ..self.row
-        };
-        Leg { row }
+        self.with_passage(Passage::Closed)
     }
 
     pub fn length(&self) -> u32
@@ -88,13 +99,38 @@ impl Leg {
         ensures { result ≡ leads self.now.row from to }
     {
         let row = self.row;
-        row.passage == OPEN
+        self.passage() == Passage::Open
             && ((row.from == from && row.to == to) || (row.to == from && row.from == to))
+    }
+}
+
+impl TryFrom<LegRow> for Leg {
+    type Error = ValueFault;
+
+    ghost try_from_gives = { Checks leg_format (λ l. l.row) };
+
+    fn try_from(row: LegRow) -> Result<Leg, ValueFault> {
+        Leg::new(
+            row.from as u32,
+            row.to as u32,
+            row.passage as u32,
+            row.length,
+        )
+    }
+}
+
+impl From<Leg> for LegRow {
+    ghost from_gives = { λ leg row. row ≡ leg.row };
+
+    fn from(leg: Leg) -> LegRow {
+        leg.row
     }
 }
 
 impl Row for LegRow {
     type Value = Leg;
+
+    type Bytes = [u8; LEG_BYTES];
 
     ghost format = { leg_format };
 
@@ -102,33 +138,26 @@ impl Row for LegRow {
 
     ghost sound = { Prim.search rules };
 
+    ghost checks = { λ row answer h. h };
+
+    ghost row_of = { λ value row h. h };
+
     ghost printed = { Prim.search rules };
 
-    fn width() -> usize {
-        LEG_BYTES
-    }
+    ghost WIDTH = { 7 };
+
+    ghost wide = { refl };
+
+    const WIDTH: usize = LEG_BYTES;
 
     fn blank() -> Leg {
         let row = LegRow {
             from: 0,
             to: 0,
-            passage: CLOSED,
+            passage: u8::from(Passage::Closed),
             length: 1,
         };
         Leg { row }
-    }
-
-    fn check(self) -> Result<Leg, ValueFault> {
-        Leg::new(
-            self.from as u32,
-            self.to as u32,
-            self.passage as u32,
-            self.length,
-        )
-    }
-
-    fn of(value: Leg) -> LegRow {
-        value.row
     }
 
     fn decode(bytes: &[u8]) -> Option<(LegRow, &[u8])> {
@@ -146,10 +175,10 @@ impl Row for LegRow {
         }
     }
 
-    fn encode(value: Leg, out: &mut [u8], place: usize) -> Option<usize> {
-        let row = LegRow::of(value);
+    fn encode(value: Leg) -> Self::Bytes {
+        let row = LegRow::from(value);
         let [l0, l1, l2, l3] = row.length.to_le_bytes();
-        put(out, place, &[row.from, row.to, row.passage, l0, l1, l2, l3])
+        [row.from, row.to, row.passage, l0, l1, l2, l3]
     }
 }
 

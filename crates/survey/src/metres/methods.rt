@@ -1,11 +1,10 @@
 // How metres are made, read, printed and laid in bytes.
-ghost use Rattle.std.specs.Prelude.{◌≡◌, ◌≤◌, Some};
-ghost use Rattle.survey.specs.Formats.{Format};
+ghost use Rattle.std.specs.Prelude.{◌≡◌, ◌≤◌, Some, refl};
+ghost use Rattle.survey.specs.Formats.{Format, Checks};
 ghost use Rattle.survey.specs.Ropes.{metres_format, metres_text};
 ghost use Rattle.std.proofs.Common.{rules};
 
 use super::{Metres, MetresRow};
-use crate::bytes::put;
 use crate::fault::ValueFault;
 use crate::row::Row;
 use std::fmt;
@@ -23,8 +22,31 @@ impl Metres {
     }
 }
 
+impl TryFrom<MetresRow> for Metres {
+    type Error = ValueFault;
+
+    ghost try_from_gives = { Checks metres_format (λ m. m.row) };
+
+    fn try_from(row: MetresRow) -> Result<Metres, ValueFault> {
+        if row.count > MOST_METRES {
+            return Err(ValueFault::Metres);
+        }
+        Ok(Metres { row })
+    }
+}
+
+impl From<Metres> for MetresRow {
+    ghost from_gives = { λ metres row. row ≡ metres.row };
+
+    fn from(metres: Metres) -> MetresRow {
+        metres.row
+    }
+}
+
 impl Row for MetresRow {
     type Value = Metres;
+
+    type Bytes = [u8; METRES_BYTES];
 
     ghost format = { metres_format };
 
@@ -32,27 +54,22 @@ impl Row for MetresRow {
 
     ghost sound = { Prim.search rules };
 
+    ghost checks = { λ row answer h. h };
+
+    ghost row_of = { λ value row h. h };
+
     ghost printed = { Prim.search rules };
 
-    fn width() -> usize {
-        METRES_BYTES
-    }
+    ghost WIDTH = { 4 };
+
+    ghost wide = { refl };
+
+    const WIDTH: usize = METRES_BYTES;
 
     fn blank() -> Metres {
         Metres {
             row: MetresRow { count: 0 },
         }
-    }
-
-    fn check(self) -> Result<Metres, ValueFault> {
-        if self.count > MOST_METRES {
-            return Err(ValueFault::Metres);
-        }
-        Ok(Metres { row: self })
-    }
-
-    fn of(value: Metres) -> MetresRow {
-        value.row
     }
 
     fn decode(bytes: &[u8]) -> Option<(MetresRow, &[u8])> {
@@ -65,8 +82,8 @@ impl Row for MetresRow {
         }
     }
 
-    fn encode(value: Metres, out: &mut [u8], place: usize) -> Option<usize> {
-        put(out, place, &value.count().to_le_bytes())
+    fn encode(value: Metres) -> Self::Bytes {
+        value.count().to_le_bytes()
     }
 }
 
