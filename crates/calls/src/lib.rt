@@ -3,5 +3,6 @@
 
 pub mod answer;
 pub mod call;
+pub mod ending;
 pub mod order;
 pub mod refusal;

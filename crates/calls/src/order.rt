@@ -7,3 +7,7 @@ pub struct Order {
     pub c: u32,
     pub d: u32,
 }
+
+// An order that no job can be made of.
+#[derive(Clone, Copy, Debug, PartialEq, Eq)]
+pub struct BadOrder;

@@ -1,6 +1,8 @@
 // Why a call was refused.
 ghost use Rattle.std.specs.Prelude.{◌≡◌};
-ghost use Rattle.calls.specs.Refusals.{refusal_number};
+ghost use Rattle.calls.specs.Refusals.{refusal_number, refused_by_book};
+
+use book::refusal::BookRefusal;
 
 #[derive(Clone, Copy, Debug, PartialEq, Eq)]
 pub enum Refusal {
@@ -33,6 +35,17 @@ impl Refusal {
             Refusal::TooManyWrites => 5,
             Refusal::LongBook => 6,
             Refusal::ShortMemory => 7,
+        }
+    }
+}
+
+// A book that lacks a line refuses for want of it.
+impl From<BookRefusal> for Refusal {
+    ghost from_gives = { λ by_book refusal. refusal ≡ refused_by_book by_book };
+
+    fn from(by_book: BookRefusal) -> Refusal {
+        match by_book {
+            BookRefusal::NoLine => Refusal::NoLine,
         }
     }
 }

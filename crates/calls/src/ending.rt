@@ -1,0 +1,20 @@
+// What a job ends with: a code, and a number whose meaning the code decides.
+ghost use Rattle.std.specs.Prelude.{◌≡◌};
+ghost use Rattle.calls.specs.Endings.{bad_ending};
+
+use crate::order::BadOrder;
+
+#[derive(Clone, Copy, Debug, PartialEq, Eq)]
+pub struct Ending {
+    pub code: u32,
+    pub number: u32,
+}
+
+// A bad order is answered 9, whatever the family.
+impl From<BadOrder> for Ending {
+    ghost from_gives = { λ _ ending. ending ≡ bad_ending };
+
+    fn from(_bad: BadOrder) -> Ending {
+        Ending { code: 9, number: 0 }
+    }
+}
