@@ -6,7 +6,7 @@ use Rattle.survey.specs.declared.fault.ValueFault.{ValueFault}
 use Rattle.survey.specs.Formats.{Format}
 use Rattle.bookfile.specs.declared.fault.FileCause.{FileCause}
 use Rattle.bookfile.specs.declared.fault.FileCause.TheVariants.{Short, Lines, Pairs, Length, Line, Value}
-use Rattle.bookfile.specs.declared.fault.FileFault.{FileFault}
+use Rattle.bookfile.specs.Faults.{FileFault}
 use Rattle.bookfile.specs.Files.{line_count, pair_count, line_place, line_of, value_place, row_of, file_size, fault_where, value_fault, first_of, pair_fault, pairs_fault, head_fault, file_fault}
 use Rattle.bookfile.specs.Meanings.{RightHead, RightPair, RightBefore, RightFile, Comes, Exactly}
 use Rattle.bookfile.proofs.Pairs.{from, pairs_on, pairs_stop, pairs_done}

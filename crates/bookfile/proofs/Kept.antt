@@ -7,7 +7,7 @@ use Rattle.survey.specs.declared.fault.ValueFault.{ValueFault}
 use Rattle.survey.specs.Bytes.{two, two_bytes}
 use Rattle.survey.specs.Formats.{Format, Sound, unless, or_blank}
 use Rattle.bookfile.specs.declared.fault.FileCause.TheVariants.{Lines}
-use Rattle.bookfile.specs.declared.fault.FileFault.{FileFault}
+use Rattle.bookfile.specs.Faults.{FileFault}
 use Rattle.bookfile.specs.Files.{line_of, row_of, pair_count, line_count, file_size, file_fault, value_place}
 use Rattle.bookfile.specs.Loads.{loaded, Loads}
 use Rattle.bookfile.specs.Meanings.{RightHead, RightPair}

@@ -2,7 +2,7 @@
 use Rattle.std.proofs.Common.{◌≡◌, ℕ, suc, ◌+◌, ◌-◌, ◌<◌, ◌≤◌, List, Some, None, Option, ap, ◌∙◌, arith}
 use Rattle.std.specs.Option.{option_or}
 use Rattle.survey.specs.Formats.{Format}
-use Rattle.bookfile.specs.declared.fault.FileFault.{FileFault}
+use Rattle.bookfile.specs.Faults.{FileFault}
 use Rattle.bookfile.specs.Files.{pair_fault, pairs_fault}
 
 module _ {R : Type 0} (f : Format R) (n m : ℕ) (bs : List ℕ) where

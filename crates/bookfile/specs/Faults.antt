@@ -3,9 +3,13 @@ use Rattle.std.specs.Prelude.{ℕ, Ok, Err, Result}
 use Rattle.survey.specs.Faults as values
 use Rattle.bookfile.specs.declared.fault.FileCause.{FileCause}
 use Rattle.bookfile.specs.declared.fault.FileCause.TheVariants.{Short, Lines, Pairs, Length, Line, Value}
-use Rattle.bookfile.specs.declared.fault.FileFault.{FileFault}
+use Rattle.bookfile.specs.declared.fault.Placed.{Placed}
 use Rattle.bookfile.specs.declared.save.SaveRefusal.{SaveRefusal}
 use Rattle.bookfile.specs.declared.save.SaveRefusal.TheVariants.{ShortOutput}
+
+-- what is wrong with a file, and at which of its bytes
+abbrev pub FileFault : Type 0
+FileFault = Placed FileCause
 
 abbrev pub number : FileCause → ℕ
 number Short = 31
@@ -25,7 +29,7 @@ inner Line = 0
 inner (Value fault) = values.number fault
 
 -- an answer with the place at which it went wrong
-abbrev pub at : {T : Type 0} → ℕ → Result T FileCause → Result T FileFault
+abbrev pub at : {T C : Type 0} → ℕ → Result T C → Result T (Placed C)
 at place (Ok found) = Ok found
 at place (Err cause) = Err (record { place = place; cause = cause })
 

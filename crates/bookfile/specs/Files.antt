@@ -6,7 +6,7 @@ use Rattle.survey.specs.Bytes.{two}
 use Rattle.survey.specs.Formats.{Format}
 use Rattle.bookfile.specs.declared.fault.FileCause.{FileCause}
 use Rattle.bookfile.specs.declared.fault.FileCause.TheVariants.{Short, Lines, Pairs, Length, Line, Value}
-use Rattle.bookfile.specs.declared.fault.FileFault.{FileFault}
+use Rattle.bookfile.specs.Faults.{FileFault}
 
 -- n, then m: two bytes each
 abbrev pub line_count : List ℕ → ℕ

@@ -1,7 +1,7 @@
 -- What loading a book file answers and leaves.
 use Rattle.std.specs.Prelude.{◌≡◌, ℕ, zero, suc, ◌+◌, List, length, Some, None, Ok, Err, Result, slice_set}
 use Rattle.survey.specs.Formats.{Format}
-use Rattle.bookfile.specs.declared.fault.FileFault.{FileFault}
+use Rattle.bookfile.specs.Faults.{FileFault}
 use Rattle.bookfile.specs.Files.{line_of, row_of, file_fault, pair_count}
 
 module _ {R : Type 0} (f : Format R) where

@@ -25,7 +25,7 @@ pub fn stated_lines(bytes: &[u8]) -> usize
 fn check_row<R: Row>(row: R) -> Result<(), FileCause>
     ensures { TellsCause (R.Row.format.fault row) result }
 {
-    let _value = row.check()?;
+    let _value = R::Value::try_from(row)?;
     Ok(())
 }
 

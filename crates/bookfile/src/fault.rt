@@ -21,11 +21,14 @@ pub enum FileCause {
     Value(ValueFault),
 }
 
+// What is wrong with some bytes, and at which of them.
 #[derive(Clone, Copy, Debug, PartialEq, Eq)]
-pub struct FileFault {
+pub struct Placed<C> {
     pub place: usize,
-    pub cause: FileCause,
+    pub cause: C,
 }
+
+pub type FileFault = Placed<FileCause>;
 
 impl FileCause {
     // The number by which the fault is printed.
@@ -61,11 +64,8 @@ impl From<ValueFault> for FileCause {
 }
 
 // The same answer, told where it went wrong.
-pub fn located<T>(answer: Result<T, FileCause>, place: usize) -> Result<T, FileFault>
+pub fn located<T, C>(answer: Result<T, C>, place: usize) -> Result<T, Placed<C>>
     ensures { result ≡ at place answer }
 {
-    match answer {
-        Ok(found) => Ok(found),
-        Err(cause) => Err(FileFault { place, cause }),
-    }
+    answer.map_err(|cause| Placed { place, cause })
 }

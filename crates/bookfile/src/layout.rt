@@ -14,7 +14,7 @@ pub(crate) fn file_size<R: Row>(pairs: usize) -> usize
     requires { pairs ≤ 4096 }
     ensures { result ≡ file_size R.Row.format pairs }
 {
-    HEAD + 2 * pairs + R::width() * pairs
+    HEAD + 2 * pairs + R::WIDTH * pairs
 }
 
 // The place of the line number of a pair.
@@ -32,5 +32,5 @@ pub(crate) fn value_place<R: Row>(pairs: usize, pair: usize) -> usize
     ensures value { result ≡ value_place R.Row.format pairs pair }
     ensures within { result + R.Row.format.width ≤ file_size R.Row.format pairs }
 {
-    HEAD + 2 * pairs + R::width() * pair
+    HEAD + 2 * pairs + R::WIDTH * pair
 }

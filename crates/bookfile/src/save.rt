@@ -8,6 +8,7 @@ ghost use Rattle.bookfile.specs.Saves.{numbers, value_bytes, file_of, Saves, Put
 
 use crate::layout::{HEAD, file_size};
 use book::book::Book;
+use std::convert::AsSlice;
 use survey::bytes::put;
 use survey::row::Row;
 
@@ -59,7 +60,7 @@ fn put_values<R: Row, B: Book<Value = R>>(book: &B, out: &mut [u8], place: usize
     ensures { out.new ≡ pasted out.old place (flat_map (value_bytes R.Row.format) (B.Book.lines book.now)) }
 {
     for line in 0..book.size() {
-        put_value(book, line, out, place + R::width() * line);
+        put_value(book, line, out, place + R::WIDTH * line);
     }
 }
 
@@ -71,7 +72,8 @@ fn put_value<R: Row, B: Book<Value = R>>(book: &B, line: usize, out: &mut [u8], 
     let Ok(row) = book.read(line) else {
         unreachable()
     };
-    let _ = R::encode(row.or_blank(), out, place);
+    let bytes = R::encode(row.or_blank());
+    let _ = put(out, place, bytes.as_slice());
 }
 
 // The length of the file of a book.

@@ -1,7 +1,7 @@
 -- What showing a book file prints.
 use Rattle.std.specs.Prelude.{ℕ, ◌+◌, List, [], ◌∷◌, ◌++◌, length, replicate, Some, None, Option}
 use Rattle.survey.specs.Formats.{Format, or_blank}
-use Rattle.bookfile.specs.declared.fault.FileFault.{FileFault}
+use Rattle.bookfile.specs.Faults.{FileFault}
 use Rattle.bookfile.specs.Files.{stated_lines, file_fault, pair_count}
 use Rattle.bookfile.specs.Loads.{loaded}
 use Rattle.script.specs.BookFaults.{printed}

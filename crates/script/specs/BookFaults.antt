@@ -1,6 +1,5 @@
 -- What is printed of the fault of a book file.
-use Rattle.bookfile.specs.declared.fault.FileFault.{FileFault}
-use Rattle.bookfile.specs.Faults.{number, inner}
+use Rattle.bookfile.specs.Faults.{FileFault, number, inner}
 use Rattle.script.specs.declared.listing.Fault.{Fault}
 
 -- it is a fault of the whole input, with its place and what caused it

@@ -10,7 +10,7 @@ use std::fmt;
 pub trait Row: Copy + From<Self::Value> {
     type Value: Copy + fmt::Display + TryFrom<Self, Error = ValueFault>;
 
-    type Bytes: AsSlice<u8>;
+    type Bytes: Copy + AsSlice<u8>;
 
     ghost format: { Format Self };
 

@@ -1,4 +1,4 @@
-use Rattle.std.proofs.Common.{◌≡◌, get_or, ap, ◌∙◌, arith}
+use Rattle.std.proofs.Common.{◌≡◌, length, get_or, ap, ◌∙◌, arith}
 use Rattle.std.proofs.lemmas.Option.{slice_get-get_or}
 use Rattle.survey.specs.Bytes.{pasted}
 use Rattle.survey.proofs.Pastes.{puts_paste}
@@ -13,6 +13,7 @@ returns g c =
     let found = c.in-Ok.ensures in
     let there = slice_get-get_or rows c.args.line f.blank found.0 in
     let same : row ≡ get_or rows c.args.line f.blank = cc in
-    let bytes = f.encoded (g.R.Row.plain c.or_blank.result) in
-    puts_paste c.args.out.now c.args.place bytes c.encode.new.out c.encode.result c.encode.ensures.bytes (omega (arith, g.met.R.Row.sound.wide (g.R.Row.plain c.or_blank.result)))
-    ∙ ap (pasted c.args.out.now c.args.place) (ap f.encoded c.or_blank.ensures ∙ ap (value_bytes f) same)
+    let bytes = c.as_slice.ensures ∙ c.encode-bytes.ensures.bytes in
+    let wide = g.met.R.Row.sound.wide (g.R.Row.plain c.or_blank.result) in
+    puts_paste c.args.out.now c.args.place c.as_slice.result.now c.put.new.out c.put.result c.put.ensures (omega (arith, ap length bytes, wide))
+    ∙ ap (pasted c.args.out.now c.args.place) (bytes ∙ (ap f.encoded c.or_blank.ensures ∙ ap (value_bytes f) same))

@@ -12,15 +12,15 @@ loop-line-init g c = values_begin g.R.Row.format g.met.R.Row.sound (g.B.Book.lin
 
 pub put_value-requires : goal.put_value-requires
 put_value-requires g c =
-    let w = ap (λ w. w * c.loop-line.line) c.width.ensures in
+    let w = ap (λ w. w * c.loop-line.line) (c.WIDTH.ensures ∙ g.met.R.Row.wide) in
     let h = value_fits g.R.Row.format.width (length (g.B.Book.lines c.args.book.now)) c.loop-line.line (omega arith) in
     (omega arith, omega arith)
 
 pub loop-line-preserved : goal.loop-line-preserved
 loop-line-preserved g c =
     values_more g.R.Row.format g.met.R.Row.sound (g.B.Book.lines c.args.book.now) c.args.out.now c.args.place
-    c.loop-line.line (c.args.place + c.width.result * c.loop-line.line) c.loop-line.out c.put_value.new.out (omega arith) (omega arith)
-    (ap (λ w. c.args.place + w * c.loop-line.line) c.width.ensures) c.loop-line.invariant c.put_value.ensures
+    c.loop-line.line (c.args.place + c.WIDTH.result * c.loop-line.line) c.loop-line.out c.put_value.new.out (omega arith) (omega arith)
+    (ap (λ w. c.args.place + w * c.loop-line.line) (c.WIDTH.ensures ∙ g.met.R.Row.wide)) c.loop-line.invariant c.put_value.ensures
 
 pub returns : goal.returns
 returns g c =
