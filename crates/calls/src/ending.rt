@@ -6,6 +6,7 @@ use crate::order::BadOrder;
 
 #[derive(Clone, Copy, Debug, PartialEq, Eq)]
 pub struct Ending {
+    // Kept a number: each family has its own codes, and a session hands them on unread.
     pub code: u32,
     pub number: u32,
 }

@@ -23,7 +23,7 @@ pub enum Refusal {
 }
 
 impl Refusal {
-    // The number that users see.
+    // The number that users see. Kept a method: `From` would read as if the number were the refusal.
     pub fn number(self) -> u32
         ensures { result ≡ refusal_number self }
     {

@@ -11,7 +11,7 @@ pub enum ValueFault {
 }
 
 impl ValueFault {
-    // The number by which the fault is printed.
+    // The number by which the fault is printed. Kept a method: `From` would read as if the number were the fault.
     pub fn number(self) -> u32
         ensures { result ≡ number self }
     {

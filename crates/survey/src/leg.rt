@@ -11,6 +11,7 @@ pub use methods::LAST_STATION;
 pub struct LegRow {
     pub from: u8,
     pub to: u8,
+    // Kept a number and no `Passage`: a row holds any byte, and callers in C hand rows in.
     pub passage: u8,
     pub length: u32,
 }
