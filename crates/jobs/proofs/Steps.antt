@@ -40,7 +40,7 @@ module _ {V S : Type 0} (m : Meaning V S) (values : List V) (s : S) (ws : List (
   stuck_write l v e h = ap (turn_at m values job) e ∙ ap (join m job l v) (and_left (ltb l (length values)) (ltb (length ws) 16) (le-ltb l (length values) h))
 
   pub reading : (l : ℕ) → m.request s ≡ Read l → NotEnding m job
-  reading l e code number f = let z : ◌≡◌ {A = ℕ} 0 1 = cc in omega arith
+  reading l e ending f = let z : ◌≡◌ {A = ℕ} 0 1 = cc in omega arith
 
   pub writing : (l : ℕ) (v : V) → m.request s ≡ Write l v → NotEnding m job
-  writing l v e code number f = let z : ◌≡◌ {A = ℕ} 0 1 = cc in omega arith
+  writing l v e ending f = let z : ◌≡◌ {A = ℕ} 0 1 = cc in omega arith

@@ -9,13 +9,11 @@ use book::book::Book;
 pub fn newest_write<V: Copy>(writes: &[Written<V>], line: u32) -> Option<V>
     ensures { result ≡ newest (reverse writes.now) line }
 {
-    let mut value = None;
-    for write in writes {
-        if write.line == line {
-            value = Some(write.value);
-        }
-    }
-    value
+    writes
+        .iter()
+        .rev()
+        .find(|write| write.line == line)
+        .map(|write| write.value)
 }
 
 // Puts the writes into a book, in their order.
