@@ -1,6 +1,7 @@
 -- Counting rope.
 use Rattle.std.specs.Prelude.{ℕ, ◌+◌, min, cond, not, ◌||◌, Ok, Err, Result, ◌==◌, nat_lt}
 use Rattle.survey.specs.declared.metres.MetresRow.{MetresRow}
+use Rattle.calls.specs.Endings.{bad_ending}
 use Rattle.calls.specs.declared.order.BadOrder.{BadOrder}
 use Rattle.calls.specs.declared.order.Order.{Order}
 use Rattle.jobs.specs.declared.request.Request.{Request}
@@ -19,7 +20,7 @@ count_first o = cond (not (o.kind == 0) || nat_lt 64 o.a) (Err (record {})) (Ok 
 
 abbrev pub count_request : Counting → Request MetresRow
 count_request (Ok tally) = cond (nat_lt tally.line tally.end) (request.Read tally.line) (request.End (ends_with 0 tally.sum))
-count_request (Err bad) = request.End (ends_with 9 0)
+count_request (Err bad) = request.End bad_ending
 
 -- numbers stay within 32 bits; sixty-four lines never come near that
 abbrev pub capped : ℕ → ℕ

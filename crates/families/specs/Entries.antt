@@ -5,6 +5,7 @@ use Rattle.survey.specs.declared.leg.LegRow.{LegRow}
 use Rattle.survey.specs.Faults.{number}
 use Rattle.survey.specs.Formats.{or_blank}
 use Rattle.survey.specs.Legs.{leg_row, leg_fault, leg_format, closed_row}
+use Rattle.calls.specs.Endings.{bad_ending}
 use Rattle.calls.specs.declared.ending.Ending.{Ending}
 use Rattle.calls.specs.declared.order.Order.{Order}
 use Rattle.jobs.specs.declared.request.Request.{Request}
@@ -35,7 +36,7 @@ entry_first o =
 -- what users see of a refusal
 abbrev pub refused : EntryRefusal → Ending
 refused (Impossible fault) = ends_with 9 (number fault)
-refused BadOrder = ends_with 9 0
+refused BadOrder = bad_ending
 
 abbrev pub entry_request : Entering → Request LegRow
 entry_request (Ok (Closing line)) = request.Read line

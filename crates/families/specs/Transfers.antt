@@ -3,6 +3,7 @@ use Rattle.std.specs.Prelude.{ℕ, ◌+◌, ◌-◌, cond, not, ◌||◌, Ok, Er
 use Rattle.survey.specs.declared.metres.MetresRow.{MetresRow}
 use Rattle.survey.specs.Formats.{or_blank}
 use Rattle.survey.specs.Ropes.{metres_row, metres_format}
+use Rattle.calls.specs.Endings.{bad_ending}
 use Rattle.calls.specs.declared.ending.Ending.{Ending}
 use Rattle.calls.specs.declared.order.Order.{Order}
 use Rattle.jobs.specs.declared.request.Request.{Request}
@@ -34,7 +35,7 @@ transfer_first o = cond (not (o.kind == 0) || o.a == o.b) (Err BadOrder) (Ok (Le
 abbrev pub refused : TransferRefusal → Ending
 refused TooFew = ends_with 1 0
 refused TooMany = ends_with 2 0
-refused BadOrder = ends_with 9 0
+refused BadOrder = bad_ending
 
 abbrev pub transfer_request : Moving → Request MetresRow
 transfer_request (Ok (Leaving asked)) = request.Read asked.from

@@ -7,7 +7,7 @@ use calls::ending::Ending;
 use calls::order::Order;
 use jobs::family::Family;
 use jobs::request::Request;
-use survey::leg::{Leg, LegRow, OPEN};
+use survey::leg::{Leg, LegRow};
 use survey::row::Row;
 
 impl Entry {
@@ -29,10 +29,10 @@ impl Family for Entry {
         // kept a number: each family has its own kinds, and one that stands beside another counts on from that one's, so no enum names them all
         match order.kind {
             0 => {
-                let leg = Leg::new(order.b, order.c, OPEN as u32, order.d)?;
+                let leg = Leg::open(order.b, order.c, order.d)?;
                 Ok(EntryState::Writing {
                     line: order.a,
-                    row: LegRow::of(leg),
+                    row: LegRow::from(leg),
                 })
             }
             1 => Ok(EntryState::Closing { line: order.a }),
@@ -57,7 +57,7 @@ impl Family for Entry {
         match state {
             Ok(EntryState::Closing { line }) => Ok(EntryState::Writing {
                 line,
-                row: LegRow::of(value.or_blank().closed()),
+                row: LegRow::from(value.or_blank().closed()),
             }),
             _ => state,
         }
