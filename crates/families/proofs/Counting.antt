@@ -1,6 +1,6 @@
 -- What a count does alone.
-use Rattle.std.proofs.Common.{◌≡◌, ℕ, zero, suc, ◌+◌, ◌<◌, ◌≤◌, true, ◌≢◌, ◌⊎◌, List, [], ◌∷◌, length, get_or, take, Ok, Err, sym, refl, ap, ◌∙◌, subst, inl, inr, add-one, arith}
-use Rattle.std.proofs.lemmas.List.{take_more}
+use Rattle.std.proofs.Common.{◌≡◌, ℕ, zero, suc, ◌+◌, ◌<◌, ◌≤◌, true, ◌≢◌, ◌⊎◌, List, [], length, get_or, take, Ok, Err, sym, refl, ap, ◌∙◌, subst, inl, inr, add-one, arith}
+use Rattle.std.proofs.lemmas.List.Sums.{sum_by_more}
 use Rattle.std.proofs.lemmas.Option.{slice_get-get_or, slice_get_past}
 use Rattle.std.proofs.lemmas.Bool.{cases_lt, cases_eq, eq-eqb, ne_eqb, lt-ltb, le-ltb, or_right}
 use Rattle.survey.specs.declared.metres.MetresRow.{MetresRow}
@@ -16,12 +16,7 @@ use Rattle.families.specs.declared.count.Tally.{Tally}
 use Rattle.families.specs.Counts.{Counting, count, count_first, count_request, capped}
 use Rattle.families.specs.Transfers.{metres_of}
 use Rattle.families.specs.Laws.{total, Counted, counts, bad_count, CountsAreRight}
-use Rattle.families.proofs.Totals.{metres_most, total-append, total_most}
-
-total_more : (values : List MetresRow) (k : ℕ) → k < length values → total (take (k + 1) values) ≡ total (take k values) + metres_of (get_or values k (metres_row 0))
-total_more values k h =
-    let row = get_or values k (metres_row 0) in
-    ap total (take_more values k (metres_row 0) h) ∙ (total-append (take k values) (row ∷ []) ∙ omega arith)
+use Rattle.families.proofs.Totals.{metres_most, total_most}
 
 module _ (o : Order) (values : List MetresRow) where
   abbrev at : ℕ → Alone MetresRow Counting
@@ -55,7 +50,7 @@ module _ (o : Order) (values : List MetresRow) where
         let line : capped (k + 1) ≡ suc k = omega arith in
         let sum : capped (total (take k values) + metres_of row) ≡ total (take (suc k) values) =
         (let e : capped (total (take k values) + metres_of row) ≡ total (take k values) + metres_of row = omega arith in e)
-        ∙ (sym (total_more values k l) ∙ ap (λ n. total (take n values)) (add-one k)) in
+        ∙ (sym (sum_by_more metres_of values k (metres_row 0) l) ∙ ap (λ n. total (take n values)) (add-one k)) in
         ap (λ n. Ok (tally n (capped (total (take k values) + metres_of row)))) line ∙ ap (λ n. Ok (tally (suc k) n)) sum
 
     -- the lines below k are added after k turns

@@ -3,6 +3,7 @@ use Rattle.std.proofs.Common.{◌≡◌, ℕ, suc, ◌<◌, List, [], ◌∷◌,
 use Rattle.std.specs.List.{slice_get}
 use Rattle.std.proofs.lemmas.Bool.{cases_lt, cases_eq, eq-eqb, ne_eqb}
 use Rattle.survey.specs.declared.fault.ValueFault.{ValueFault}
+use Rattle.std.proofs.lemmas.Option.{slice_get_within}
 use Rattle.survey.specs.declared.leg.LegRow.{LegRow}
 use Rattle.survey.specs.Formats.{or_blank}
 use Rattle.survey.specs.Legs.{leg_fault, leg_format, closed_row}
@@ -11,7 +12,7 @@ use Rattle.calls.specs.declared.order.Order.{Order}
 use Rattle.jobs.specs.Alone.{Alone, Ends, ends_with, turn, after_turns, applied}
 use Rattle.jobs.specs.Doing.{NotEnding}
 use Rattle.jobs.proofs.Endings.{ends_once, never_ends}
-use Rattle.jobs.proofs.Steps.{there, reads, writes, stuck_read, stuck_write, reading, writing}
+use Rattle.jobs.proofs.Steps.{reads, writes, stuck_read, stuck_write, reading, writing}
 use Rattle.families.specs.declared.entry.EntryRefusal.{EntryRefusal}
 use Rattle.families.specs.declared.entry.EntryRefusal.TheVariants.{Impossible, BadOrder}
 use Rattle.families.specs.declared.entry.EntryState.TheVariants.{Closing, Writing, Written}
@@ -54,7 +55,7 @@ module _ (o : Order) (values : List LegRow) where
   does : (ending : Ending) (after : List LegRow) → Entered o values ending after → Ends entry o values ending after
   does _ _ (enters k f h) = then_writes 0 (asked_leg o) (begins (Ok (Writing o.a (asked_leg o))) (first_writes k f)) h
   does _ _ (impossible fault k f) = ends_now (Impossible fault) (first_impossible fault k f)
-  does _ _ (closes row k e) = then_writes 1 (closed_row (or_blank leg_format row)) (closed_next row k e) (there values o.a row e)
+  does _ _ (closes row k e) = then_writes 1 (closed_row (or_blank leg_format row)) (closed_next row k e) (slice_get_within values o.a row e)
   does _ _ (unknown k) = ends_now BadOrder (first_unknown k)
 
   module _ (ending : Ending) (after : List LegRow) (x : Ends entry o values ending after) where

@@ -1,7 +1,8 @@
 -- What a transfer does alone.
-use Rattle.std.proofs.Common.{◌≡◌, ℕ, ◌+◌, ◌-◌, ◌<◌, ◌≤◌, true, ◌≢◌, ◌⊎◌, List, [], ◌∷◌, length, set, Some, None, Option, Ok, Err, sym, refl, ap, ◌∙◌, subst, inl, inr, arith}
+use Rattle.std.proofs.Common.{◌≡◌, ℕ, ◌+◌, ◌-◌, ◌<◌, ◌≤◌, true, ◌≢◌, ◌⊎◌, List, [], ◌∷◌, set, Some, None, Option, Ok, Err, sym, refl, ap, ◌∙◌, subst, inl, inr, arith}
 use Rattle.std.specs.List.{slice_get}
 use Rattle.std.proofs.lemmas.Bool.{cases_lt, cases_eq, eq-eqb, ne_eqb, lt-ltb, le-ltb, le-leb, lt-leb, or_right}
+use Rattle.std.proofs.lemmas.Option.{slice_get_within}
 use Rattle.survey.specs.declared.metres.MetresRow.{MetresRow}
 use Rattle.survey.specs.Ropes.{metres_row}
 use Rattle.calls.specs.declared.ending.Ending.{Ending}
@@ -9,13 +10,13 @@ use Rattle.calls.specs.declared.order.Order.{Order}
 use Rattle.jobs.specs.Alone.{Alone, Ends, turn, after_turns, applied}
 use Rattle.jobs.specs.Doing.{NotEnding}
 use Rattle.jobs.proofs.Endings.{next, ends_once, never_ends}
-use Rattle.jobs.proofs.Steps.{there as is-there, reads, writes, stuck_read, reading}
+use Rattle.jobs.proofs.Steps.{reads, writes, stuck_read, reading}
 use Rattle.families.specs.declared.transfer.TransferRefusal.{TransferRefusal}
 use Rattle.families.specs.declared.transfer.TransferRefusal.TheVariants.{TooFew, TooMany, BadOrder}
 use Rattle.families.specs.declared.transfer.TransferState.TheVariants.{Leaving, Coming, Taking, Giving, Given}
 use Rattle.families.specs.Transfers.{Moving, transfer, transfer_first, transfer_request, refused, decided, asked_move, metres_of}
 use Rattle.families.specs.Laws.{total, Between, Transferred, moves, too_few, too_many, bad, TransfersAreRight}
-use Rattle.families.proofs.Totals.{metres_most, metres_kept, total-set, nth_set_other}
+use Rattle.families.proofs.Totals.{metres_most, metres_kept, total_set, others_stay}
 
 module _ (o : Order) (values : List MetresRow) where
   abbrev at : ℕ → Alone MetresRow Moving
@@ -74,12 +75,9 @@ module _ (o : Order) (values : List MetresRow) where
       four : metres_of there + o.c ≤ 1000000 → at 4 ≡ record { state = Ok Given; writes = record { line = o.b; value = given } ∷ record { line = o.a; value = taken } ∷ [] }
       four h =
           let three : at 3 ≡ record { state = Ok (Giving o.b (metres_of there + o.c)); writes = record { line = o.a; value = taken } ∷ [] } =
-          ap (turn transfer values) (after_two ∙ ap still (decided_moves h)) ∙ writes transfer values taking [] o.a taken refl (there_is o.a held b.from) (omega arith) in
+          ap (turn transfer values) (after_two ∙ ap still (decided_moves h)) ∙ writes transfer values taking [] o.a taken refl (slice_get_within values o.a held b.from) (omega arith) in
           ap (turn transfer values) three
-          ∙ writes transfer values (Ok (Giving o.b (metres_of there + o.c))) (record { line = o.a; value = taken } ∷ []) o.b given refl (there_is o.b there b.to) (omega arith)
-        where
-          there_is : (l : ℕ) (v : MetresRow) → slice_get values l ≡ Some v → l < length values
-          there_is l v e = is-there values l v e
+          ∙ writes transfer values (Ok (Giving o.b (metres_of there + o.c))) (record { line = o.a; value = taken } ∷ []) o.b given refl (slice_get_within values o.b there b.to) (omega arith)
 
     decided_few : metres_of held < o.c → outcome ≡ Err TooFew
     decided_few h = rw (lt-ltb (metres_of held) o.c h)
@@ -154,8 +152,8 @@ module _ (o : Order) (values : List MetresRow) where
       let most = metres_most held in
       let t = metres_kept (metres_of held - o.c) (omega arith) in
       let g = metres_kept (metres_of there + o.c) fits in
-      let first = total-set values o.a held taken b.from in
-      let second = total-set (set values o.a taken) o.b there given (nth_set_other values o.a o.b taken b.apart ∙ b.to) in
+      let first = total_set values o.a held taken b.from in
+      let second = total_set (set values o.a taken) o.b there given (others_stay values o.a o.b taken there b.apart b.to) in
       omega arith
 
   stays_total : (ending : Ending) (after : List MetresRow) → Transferred o values ending after → total after ≡ total values

@@ -1,5 +1,5 @@
 -- What an entry, a transfer and a count do when they are done alone, in the words of the survey.
-use Rattle.std.specs.Prelude.{◌≡◌, ℕ, ◌+◌, ◌-◌, ◌<◌, ◌≤◌, ◌≢◌, ◌⊎◌, List, [], ◌∷◌, length, take, Some, None, slice_set}
+use Rattle.std.specs.Prelude.{◌≡◌, ℕ, ◌+◌, ◌-◌, ◌<◌, ◌≤◌, ◌≢◌, ◌⊎◌, List, length, take, sum_by, Some, None, slice_set}
 use Rattle.std.specs.List.{slice_get}
 use Rattle.survey.specs.declared.fault.ValueFault.{ValueFault}
 use Rattle.survey.specs.declared.leg.LegRow.{LegRow}
@@ -34,8 +34,7 @@ EntriesAreRight = Exactly entry Entered
 
 -- the metres of all lines together
 abbrev pub total : List MetresRow → ℕ
-total [] = 0
-total (row ∷ rows) = metres_of row + total rows
+total rows = sum_by metres_of rows
 
 -- the rows of two lines, of which c metres are to go from the first to the second
 pub record Between (o : Order) (values : List MetresRow) (held there : MetresRow) : Type 0 where

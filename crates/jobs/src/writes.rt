@@ -21,6 +21,7 @@ pub fn commit<B: Book>(writes: &[Written<B::Value>], book: &mut B)
     ensures { B.Book.lines book.new ≡ applied (reverse writes.now) (B.Book.lines book.old) }
 {
     for write in writes {
+        // a book that lacks the line refuses and stays as it was
         let _ = book.write(write.line as usize, write.value);
     }
 }
