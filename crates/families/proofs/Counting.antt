@@ -96,4 +96,4 @@ module _ (o : Order) (values : List MetresRow) where
       settled other then p = ends_once count values o (Counted o values) other then (does other then p) p ending left x
 
 pub counts_are_right : CountsAreRight
-counts_are_right o values ending after = (did o values ending after, does o values ending after)
+counts_are_right = record { only = did; always = does }

@@ -95,4 +95,4 @@ module _ (o : Order) (values : List LegRow) where
         positive k j = omega arith
 
 pub entries_are_right : EntriesAreRight
-entries_are_right o values ending after = (did o values ending after, does o values ending after)
+entries_are_right = record { only = did; always = does }

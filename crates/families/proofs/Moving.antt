@@ -165,6 +165,6 @@ module _ (o : Order) (values : List MetresRow) where
 pub transfers_are_right : TransfersAreRight
 transfers_are_right =
     record {
-      exactly = λ o values ending after. (did o values ending after, does o values ending after);
+      exactly = record { only = did; always = does };
       total_stays = λ o values ending after x. stays_total o values ending after (did o values ending after x);
     }

@@ -17,10 +17,9 @@ use Rattle.families.specs.Transfers.{transfer, metres_of}
 use Rattle.families.specs.Counts.{count}
 
 -- an order of the family, done alone on some values, ends so and leaves other values exactly where the relation says so
-abbrev pub Exactly : {V S : Type 0} → Meaning V S → (Order → List V → Ending → List V → Type 0) → Type 0
-Exactly {V} m Does =
-    (o : Order) (values : List V) (ending : Ending) (after : List V)
-    → (Ends m o values ending after → Does o values ending after) × (Does o values ending after → Ends m o values ending after)
+pub record Exactly {V S : Type 0} (m : Meaning V S) (Does : Order → List V → Ending → List V → Type 0) : Type 0 where
+  pub only : (o : Order) (values : List V) (ending : Ending) (after : List V) → Ends m o values ending after → Does o values ending after
+  pub always : (o : Order) (values : List V) (ending : Ending) (after : List V) → Does o values ending after → Ends m o values ending after
 
 -- the leg asked for stands on its line; or it is impossible; or the leg of a line is closed; every other line is as it was
 pub data Entered (o : Order) (values : List LegRow) : Ending → List LegRow → Type 0 where

@@ -49,7 +49,8 @@ module _ {V S T : Type 0} (m : Meaning V S) (n : Meaning V T) (f : S → T) (ask
       }
 
 pub ends_as_its_own : {V S T : Type 0} (m : Meaning V S) (n : Meaning V T) → EndsAsItsOwn m n
-ends_as_its_own m n o values ending after x = (
-  λ e. ends_so m (beside m n) Left (λ s. refl) (λ s v. refl) (λ s. refl) o o values ending after (cond-true (eqb o.kind 0) _ _ (eq-eqb o.kind 0 e)) x,
-  λ h. ends_so n (beside m n) Right (λ s. refl) (λ s v. refl) (λ s. refl) o (lowered o) values ending after (cond-false (eqb o.kind 0) _ _ (ne_eqb o.kind 0 (λ e. omega arith))) x,
-)
+ends_as_its_own m n =
+    record {
+      of_first = λ o values ending after e. ends_so m (beside m n) Left (λ s. refl) (λ s v. refl) (λ s. refl) o o values ending after (cond-true (eqb o.kind 0) _ _ (eq-eqb o.kind 0 e));
+      of_second = λ o values ending after h. ends_so n (beside m n) Right (λ s. refl) (λ s v. refl) (λ s. refl) o (lowered o) values ending after (cond-false (eqb o.kind 0) _ _ (ne_eqb o.kind 0 (λ e. omega arith)));
+    }

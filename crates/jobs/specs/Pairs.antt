@@ -23,7 +23,6 @@ beside m n =
     }
 
 -- a job of a pair that ends does so as a job of its own family
-abbrev pub EndsAsItsOwn : {V S T : Type 0} → Meaning V S → Meaning V T → Type 0
-EndsAsItsOwn {V} m n =
-    (o : Order) (values : List V) (ending : Ending) (after : List V) → Ends (beside m n) o values ending after
-    → (o.kind ≡ 0 → Ends m o values ending after) × (0 < o.kind → Ends n (lowered o) values ending after)
+pub record EndsAsItsOwn {V S T : Type 0} (m : Meaning V S) (n : Meaning V T) : Type 0 where
+  pub of_first : (o : Order) (values : List V) (ending : Ending) (after : List V) → o.kind ≡ 0 → Ends (beside m n) o values ending after → Ends m o values ending after
+  pub of_second : (o : Order) (values : List V) (ending : Ending) (after : List V) → 0 < o.kind → Ends (beside m n) o values ending after → Ends n (lowered o) values ending after

@@ -15,6 +15,7 @@ pub struct Beside<F, G> {
 }
 
 impl<F: Family, G: Family<Value = F::Value>> Beside<F, G> {
+    #[tactic(auto, using(crate::proofs::Pairing::ends_as_its_own))]
     pub fn new(first: F, second: G) -> Beside<F, G>
         ensures fields { result ≡ record { first = first; second = second } }
         ensures own { EndsAsItsOwn (F.Family.meaning first) (G.Family.meaning second) }

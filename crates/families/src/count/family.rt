@@ -14,6 +14,7 @@ use survey::row::Row;
 pub const MOST_COUNTED: u32 = 64;
 
 impl Count {
+    #[tactic(auto, using(crate::proofs::Counting::counts_are_right))]
     pub fn new() -> Count
         ensures { CountsAreRight }
     {

@@ -11,6 +11,7 @@ use survey::leg::{Leg, LegRow};
 use survey::row::Row;
 
 impl Entry {
+    #[tactic(auto, using(crate::proofs::Entering::entries_are_right))]
     pub fn new() -> Entry
         ensures { EntriesAreRight }
     {

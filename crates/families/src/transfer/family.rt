@@ -32,6 +32,7 @@ impl Move {
 }
 
 impl Transfer {
+    #[tactic(auto, using(crate::proofs::Moving::transfers_are_right))]
     pub fn new() -> Transfer
         ensures { TransfersAreRight }
     {
