@@ -29,6 +29,7 @@ fn run<F: Family, B: Book<Value = F::Value>>(
 
 // Does the job of an order alone on a book, in so many turns at most: how it ends, or none if the turns are spent.
 // The book changes only if the job ends.
+#[tactic(auto, using(crate::proofs::Outcomes::does_so, crate::proofs::Outcomes::means_so))]
 pub fn do_alone<F: Family, B: Book<Value = F::Value>>(
     heap: Global,
     family: &F,

@@ -17,6 +17,7 @@ pub fn newest_write<V: Copy>(writes: &[Written<V>], line: u32) -> Option<V>
 }
 
 // Puts the writes into a book, in their order.
+#[tactic(auto, using(crate::proofs::Newest::applied_more, crate::proofs::Newest::reverse_all, book::proofs::Writing::writes_set))]
 pub fn commit<B: Book>(writes: &[Written<B::Value>], book: &mut B)
     ensures { B.Book.lines book.new ≡ applied (reverse writes.now) (B.Book.lines book.old) }
 {
