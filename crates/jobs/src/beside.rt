@@ -31,7 +31,7 @@ impl<F: Family, G: Family<Value = F::Value>> Family for Beside<F, G> {
 
     ghost meaning = { λ s. beside (F.Family.meaning s.first) (G.Family.meaning s.second) };
 
-    fn start(&self, order: Order) -> Either<F::State, G::State> {
+    fn start(&self, order: Order) -> Self::State {
         if order.kind == 0 {
             return Left(self.first.start(order));
         }
@@ -42,25 +42,21 @@ impl<F: Family, G: Family<Value = F::Value>> Family for Beside<F, G> {
         Right(self.second.start(lowered))
     }
 
-    fn request(&self, state: Either<F::State, G::State>) -> Request<F::Value> {
+    fn request(&self, state: Self::State) -> Request<Self::Value> {
         state.either(
             |state| self.first.request(state),
             |state| self.second.request(state),
         )
     }
 
-    fn after_read(
-        &self,
-        state: Either<F::State, G::State>,
-        value: F::Value,
-    ) -> Either<F::State, G::State> {
+    fn after_read(&self, state: Self::State, value: Self::Value) -> Self::State {
         state.map_either(
             |state| self.first.after_read(state, value),
             |state| self.second.after_read(state, value),
         )
     }
 
-    fn after_write(&self, state: Either<F::State, G::State>) -> Either<F::State, G::State> {
+    fn after_write(&self, state: Self::State) -> Self::State {
         state.map_either(
             |state| self.first.after_write(state),
             |state| self.second.after_write(state),

@@ -29,7 +29,7 @@ impl Family for Count {
 
     ghost meaning = { λ _. count };
 
-    fn start(&self, order: Order) -> Result<Tally, BadOrder> {
+    fn start(&self, order: Order) -> Self::State {
         if order.kind != 0 || order.a > MOST_COUNTED {
             return Err(BadOrder);
         }
@@ -40,7 +40,7 @@ impl Family for Count {
         })
     }
 
-    fn request(&self, state: Result<Tally, BadOrder>) -> Request<MetresRow> {
+    fn request(&self, state: Self::State) -> Request<Self::Value> {
         match state {
             Ok(Tally { line, end, .. }) if line < end => Request::Read { line },
             Ok(Tally { sum, .. }) => Request::End(Ending {
@@ -51,11 +51,7 @@ impl Family for Count {
         }
     }
 
-    fn after_read(
-        &self,
-        state: Result<Tally, BadOrder>,
-        value: MetresRow,
-    ) -> Result<Tally, BadOrder> {
+    fn after_read(&self, state: Self::State, value: MetresRow) -> Self::State {
         let Tally { line, end, sum } = state?;
         Ok(Tally {
             line: line.saturating_add(1),
@@ -65,7 +61,7 @@ impl Family for Count {
     }
 
     // A count writes nothing.
-    fn after_write(&self, state: Result<Tally, BadOrder>) -> Result<Tally, BadOrder> {
+    fn after_write(&self, state: Self::State) -> Self::State {
         state
     }
 }

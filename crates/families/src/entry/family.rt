@@ -26,7 +26,7 @@ impl Family for Entry {
 
     ghost meaning = { λ _. entry };
 
-    fn start(&self, order: Order) -> Result<EntryState, EntryRefusal> {
+    fn start(&self, order: Order) -> Self::State {
         // kept a number: each family has its own kinds, and one that stands beside another counts on from that one's, so no enum names them all
         match order.kind {
             0 => {
@@ -41,7 +41,7 @@ impl Family for Entry {
         }
     }
 
-    fn request(&self, state: Result<EntryState, EntryRefusal>) -> Request<LegRow> {
+    fn request(&self, state: Self::State) -> Request<Self::Value> {
         match state {
             Ok(EntryState::Closing { line }) => Request::Read { line },
             Ok(EntryState::Writing { line, row }) => Request::Write { line, value: row },
@@ -50,11 +50,7 @@ impl Family for Entry {
         }
     }
 
-    fn after_read(
-        &self,
-        state: Result<EntryState, EntryRefusal>,
-        value: LegRow,
-    ) -> Result<EntryState, EntryRefusal> {
+    fn after_read(&self, state: Self::State, value: LegRow) -> Self::State {
         match state {
             Ok(EntryState::Closing { line }) => Ok(EntryState::Writing {
                 line,
@@ -64,10 +60,7 @@ impl Family for Entry {
         }
     }
 
-    fn after_write(
-        &self,
-        state: Result<EntryState, EntryRefusal>,
-    ) -> Result<EntryState, EntryRefusal> {
+    fn after_write(&self, state: Self::State) -> Self::State {
         match state {
             Ok(EntryState::Writing { .. }) => Ok(EntryState::Written),
             _ => state,

@@ -47,7 +47,7 @@ impl Family for Transfer {
 
     ghost meaning = { λ _. transfer };
 
-    fn start(&self, order: Order) -> Result<TransferState, TransferRefusal> {
+    fn start(&self, order: Order) -> Self::State {
         if order.kind != 0 || order.a == order.b {
             return Err(TransferRefusal::BadOrder);
         }
@@ -58,7 +58,7 @@ impl Family for Transfer {
         }))
     }
 
-    fn request(&self, state: Result<TransferState, TransferRefusal>) -> Request<MetresRow> {
+    fn request(&self, state: Self::State) -> Request<Self::Value> {
         match state {
             Ok(TransferState::Leaving(asked)) => Request::Read { line: asked.from },
             Ok(TransferState::Coming { asked, .. }) => Request::Read { line: asked.to },
@@ -75,11 +75,7 @@ impl Family for Transfer {
         }
     }
 
-    fn after_read(
-        &self,
-        state: Result<TransferState, TransferRefusal>,
-        value: MetresRow,
-    ) -> Result<TransferState, TransferRefusal> {
+    fn after_read(&self, state: Self::State, value: MetresRow) -> Self::State {
         let there = value.or_blank();
         match state? {
             TransferState::Leaving(asked) => Ok(TransferState::Coming {
@@ -91,10 +87,7 @@ impl Family for Transfer {
         }
     }
 
-    fn after_write(
-        &self,
-        state: Result<TransferState, TransferRefusal>,
-    ) -> Result<TransferState, TransferRefusal> {
+    fn after_write(&self, state: Self::State) -> Self::State {
         match state {
             Ok(TransferState::Taking { to, total, .. }) => Ok(TransferState::Giving { to, total }),
             Ok(TransferState::Giving { .. }) => Ok(TransferState::Given),
