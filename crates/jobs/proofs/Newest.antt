@@ -1,5 +1,5 @@
 -- The writes of a job one by one: the newest comes to the front.
-use Rattle.std.proofs.Common.{◌≡◌, ℕ, ◌+◌, ◌<◌, ◌≤◌, ◌==◌, Bool, true, false, cond, List, [], ◌∷◌, reverse, length, get_or, take, set, Some, refl, sym, ap, ◌∙◌}
+use Rattle.std.proofs.Common.{◌≡◌, ℕ, ◌+◌, ◌<◌, ◌≤◌, ◌==◌, List, [], ◌∷◌, reverse, length, get_or, take, set, refl, sym, ap, ◌∙◌, arith}
 use Rattle.std.specs.Option.{option_map}
 use Rattle.std.specs.List.{find}
 use Rattle.std.proofs.lemmas.List.{take_more, reverse-append, take_all}
@@ -17,12 +17,7 @@ module _ {V : Type 0} where
   -- the newest write to a line is the first that has it
   pub first_to_line : (ws : List (Written V)) (l : ℕ) → option_map (λ w. w.value) (find (λ w. w.line == l) ws) ≡ newest ws l
   first_to_line [] l = refl
-  first_to_line (w ∷ ws) l = here (w.line == l) (first_to_line ws l)
-    where
-      here : (b : Bool) → option_map (λ (w : Written V). w.value) (find (λ w. w.line == l) ws) ≡ newest ws l
-          → option_map (λ (w : Written V). w.value) (cond b (Some w) (find (λ w. w.line == l) ws)) ≡ cond b (Some w.value) (newest ws l)
-      here true e = refl
-      here false e = e
+  first_to_line (w ∷ ws) l = grind (arith, first_to_line ws l)
 
   -- one write more is put in
   pub applied_more : (ws : List (Written V)) (i : ℕ) (w : Written V) → i < length ws → w ≡ get_or ws i w → (values : List V)
