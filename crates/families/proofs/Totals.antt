@@ -1,7 +1,11 @@
 -- The metres of many lines together.
-use Rattle.std.proofs.Common.{◌≡◌, ℕ, zero, suc, ◌+◌, ◌*◌, ◌≤◌, Bool, true, false, cond, leb, ◌≢◌, List, [], ◌∷◌, ◌++◌, take, set, Some, None, sym, refl, ap, subst, mul-suc, arith}
+use Rattle.std.proofs.Common.{◌≡◌, ℕ, ◌+◌, ◌*◌, ◌≤◌, Bool, true, false, cond, leb, ◌≢◌, List, take, get_or, set, Some, None, sym, refl, ap, subst, ◌∙◌, arith}
 use Rattle.std.specs.List.{slice_get}
 use Rattle.std.proofs.lemmas.Bool.{leb-true, le-leb}
+use Rattle.std.proofs.lemmas.List.{length-set, length-take, get_or-set_other}
+use Rattle.std.proofs.lemmas.List.Elements.{All-from_get_or}
+use Rattle.std.proofs.lemmas.List.Sums.{sum_by-set, sum_by-le}
+use Rattle.std.proofs.lemmas.Option.{slice_get_within, slice_get-get_or, get_or_from_slice_get}
 use Rattle.survey.specs.declared.fault.ValueFault.TheVariants.{Metres}
 use Rattle.survey.specs.declared.metres.MetresRow.{MetresRow}
 use Rattle.survey.specs.Formats.{unless}
@@ -20,26 +24,22 @@ pub metres_kept : (n : ℕ) → n ≤ 1000000 → metres_of (metres_row n) ≡ n
 metres_kept n h = subst (λ (b : Bool). (unless (cond b None (Some Metres)) (metres_row n) (metres_row 0)).count ≡ n) (sym (le-leb n 1000000 h)) refl
 
 -- one line is written
-pub total-set : (values : List MetresRow) (i : ℕ) (old new : MetresRow) → slice_get values i ≡ Some old → total (set values i new) + metres_of old ≡ total values + metres_of new
-total-set [] i old new e = let z : ◌≡◌ {A = ℕ} 0 1 = cc in absurd (omega arith)
-total-set (row ∷ rows) zero old new e =
-    let same : row ≡ old = cc in
-    let k = ap metres_of same in
+pub total_set : (values : List MetresRow) (i : ℕ) (old new : MetresRow) → slice_get values i ≡ Some old → total (set values i new) + metres_of old ≡ total values + metres_of new
+total_set values i old new e =
+    let s = sum_by-set metres_of values i new old (slice_get_within values i old e) in
+    let same = ap metres_of (get_or_from_slice_get values i old old e) in
     omega arith
-total-set (row ∷ rows) (suc i) old new e = let k = total-set rows i old new e in omega arith
 
-pub nth_set_other : {V : Type 0} (values : List V) (i j : ℕ) (v : V) → i ≢ j → slice_get (set values i v) j ≡ slice_get values j
-nth_set_other [] i j v h = refl
-nth_set_other (x ∷ xs) zero zero v h = absurd (h refl)
-nth_set_other (x ∷ xs) zero (suc j) v h = refl
-nth_set_other (x ∷ xs) (suc i) zero v h = refl
-nth_set_other (x ∷ xs) (suc i) (suc j) v h = nth_set_other xs i j v (λ e. h (ap suc e))
-
-pub total-append : (xs ys : List MetresRow) → total (xs ++ ys) ≡ total xs + total ys
-total-append [] ys = sym (omega arith)
-total-append (x ∷ xs) ys = let k = total-append xs ys in omega arith
+-- and the others are as they were
+pub others_stay : {V : Type 0} (values : List V) (i j : ℕ) (new v : V) → i ≢ j → slice_get values j ≡ Some v → slice_get (set values i new) j ≡ Some v
+others_stay values i j new v h e =
+    let within = slice_get_within values j v e in
+    let n = length-set values i new in
+    let first = slice_get-get_or (set values i new) j v (omega arith) in
+    first ∙ ap (λ x. Some x) (get_or-set_other values i j new v (λ e. h (sym e)) ∙ get_or_from_slice_get values j v v e)
 
 pub total_most : (k : ℕ) (rows : List MetresRow) → total (take k rows) ≤ 1000000 * k
-total_most zero rows = omega arith
-total_most (suc k) [] = omega arith
-total_most (suc k) (row ∷ rows) = let t = total_most k rows in let h = metres_most row in omega (arith, mul-suc 1000000 k)
+total_most k rows =
+    let most = sum_by-le metres_of 1000000 (take k rows) (All-from_get_or (λ row. metres_of row ≤ 1000000) (take k rows) (metres_row 0) (λ i h. metres_most (get_or (take k rows) i (metres_row 0)))) in
+    let n = length-take k rows in
+    omega arith

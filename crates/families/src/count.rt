@@ -5,9 +5,10 @@ mod family;
 #[derive(Clone, Copy)]
 pub struct Count;
 
+// The line is to be read, unless it is the end; the lines before it have so many metres.
 #[derive(Clone, Copy)]
-pub enum CountState {
-    // The line is to be read, unless it is the end; the lines before it have so many metres.
-    Adding { line: u32, end: u32, sum: u32 },
-    Bad,
+pub struct Tally {
+    line: u32,
+    end: u32,
+    sum: u32,
 }

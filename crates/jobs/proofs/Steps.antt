@@ -1,25 +1,13 @@
 -- One turn of a job alone, by what it asks for.
-use Rattle.std.proofs.Common.{◌≡◌, ℕ, ◌<◌, ◌≤◌, ltb, List, ◌∷◌, length, Some, None, ap, ◌∙◌, inl, inr, arith}
+use Rattle.std.proofs.Common.{◌≡◌, ℕ, ◌<◌, ◌≤◌, ltb, List, ◌∷◌, length, Some, None, ap, ◌∙◌, arith}
 use Rattle.std.specs.Option.{option_or}
 use Rattle.std.specs.List.{slice_get}
-use Rattle.std.proofs.lemmas.Option.{slice_get_past}
-use Rattle.std.proofs.lemmas.Bool.{cases_lt, lt-ltb, le-ltb, and_from, and_left}
+use Rattle.std.proofs.lemmas.Bool.{lt-ltb, le-ltb, and_from, and_left}
 use Rattle.jobs.specs.declared.request.Request.TheVariants.{Read, Write}
 use Rattle.jobs.specs.declared.written.Written.{Written}
 use Rattle.jobs.specs.Alone.{Alone, turn, turn_at, take_in, join, newest}
 use Rattle.jobs.specs.Doing.{NotEnding}
 use Rattle.jobs.specs.Meanings.{Meaning}
-
--- a line that has a value is there
-pub there : {V : Type 0} (values : List V) (l : ℕ) (v : V) → slice_get values l ≡ Some v → l < length values
-there {V} values l v e =
-    elim (cases_lt l (length values)) [
-      | inl h ↦ h
-      | inr h ↦
-          let past = slice_get_past values l h in
-          let z : ◌≡◌ {A = ℕ} 0 1 = cc in
-          absurd (omega arith)
-    ]
 
 module _ {V S : Type 0} (m : Meaning V S) (values : List V) (s : S) (ws : List (Written V)) where
   abbrev pub job : Alone V S
@@ -40,7 +28,7 @@ module _ {V S : Type 0} (m : Meaning V S) (values : List V) (s : S) (ws : List (
   stuck_write l v e h = ap (turn_at m values job) e ∙ ap (join m job l v) (and_left (ltb l (length values)) (ltb (length ws) 16) (le-ltb l (length values) h))
 
   pub reading : (l : ℕ) → m.request s ≡ Read l → NotEnding m job
-  reading l e code number f = let z : ◌≡◌ {A = ℕ} 0 1 = cc in omega arith
+  reading l e ending f = let z : ◌≡◌ {A = ℕ} 0 1 = cc in omega arith
 
   pub writing : (l : ℕ) (v : V) → m.request s ≡ Write l v → NotEnding m job
-  writing l v e code number f = let z : ◌≡◌ {A = ℕ} 0 1 = cc in omega arith
+  writing l v e ending f = let z : ◌≡◌ {A = ℕ} 0 1 = cc in omega arith

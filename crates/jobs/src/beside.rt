@@ -5,13 +5,7 @@ ghost use Rattle.jobs.specs.Pairs.{beside, EndsAsItsOwn};
 use crate::family::Family;
 use crate::request::Request;
 use calls::order::Order;
-
-// The state of a job of one of two families.
-#[derive(Clone, Copy)]
-pub enum Either<S, T> {
-    First(S),
-    Second(T),
-}
+use either::{Either, Left, Right};
 
 // Kind 0 goes to the first family, and kind k above 0 to the second as k - 1.
 #[derive(Drop)]
@@ -21,6 +15,7 @@ pub struct Beside<F, G> {
 }
 
 impl<F: Family, G: Family<Value = F::Value>> Beside<F, G> {
+    #[tactic(auto, using(crate::proofs::Pairing::ends_as_its_own))]
     pub fn new(first: F, second: G) -> Beside<F, G>
         ensures fields { result ≡ record { first = first; second = second } }
         ensures own { EndsAsItsOwn (F.Family.meaning first) (G.Family.meaning second) }
@@ -36,39 +31,35 @@ impl<F: Family, G: Family<Value = F::Value>> Family for Beside<F, G> {
 
     ghost meaning = { λ s. beside (F.Family.meaning s.first) (G.Family.meaning s.second) };
 
-    fn start(&self, order: Order) -> Either<F::State, G::State> {
+    fn start(&self, order: Order) -> Self::State {
         if order.kind == 0 {
-            return Either::First(self.first.start(order));
+            return Left(self.first.start(order));
         }
         let lowered = Order {
             kind: order.kind - 1,
             ..order
         };
-        Either::Second(self.second.start(lowered))
+        Right(self.second.start(lowered))
     }
 
-    fn request(&self, state: Either<F::State, G::State>) -> Request<F::Value> {
-        match state {
-            Either::First(state) => self.first.request(state),
-            Either::Second(state) => self.second.request(state),
-        }
+    fn request(&self, state: Self::State) -> Request<Self::Value> {
+        state.either(
+            |state| self.first.request(state),
+            |state| self.second.request(state),
+        )
     }
 
-    fn after_read(
-        &self,
-        state: Either<F::State, G::State>,
-        value: F::Value,
-    ) -> Either<F::State, G::State> {
-        match state {
-            Either::First(state) => Either::First(self.first.after_read(state, value)),
-            Either::Second(state) => Either::Second(self.second.after_read(state, value)),
-        }
+    fn after_read(&self, state: Self::State, value: Self::Value) -> Self::State {
+        state.map_either(
+            |state| self.first.after_read(state, value),
+            |state| self.second.after_read(state, value),
+        )
     }
 
-    fn after_write(&self, state: Either<F::State, G::State>) -> Either<F::State, G::State> {
-        match state {
-            Either::First(state) => Either::First(self.first.after_write(state)),
-            Either::Second(state) => Either::Second(self.second.after_write(state)),
-        }
+    fn after_write(&self, state: Self::State) -> Self::State {
+        state.map_either(
+            |state| self.first.after_write(state),
+            |state| self.second.after_write(state),
+        )
     }
 }

@@ -1,7 +1,6 @@
 // A job that is done alone.
-ghost use Rattle.std.specs.Prelude.{◌≤◌, vec_len, vec_capacity};
-
 use crate::written::Written;
+use std::marker::Model;
 
 mod methods;
 
@@ -10,6 +9,16 @@ mod methods;
 pub struct Job<S, V> {
     state: S,
     writes: Vec<Written<V>>,
-    ghost few: { vec_len writes ≤ 16 },
-    ghost room: { 16 ≤ vec_capacity writes },
+}
+
+// A job means its state and its writes, the newest first.
+impl<S, V> Model for Job<S, V> {
+    ghost use Rattle.std.specs.Prelude.{◌≤◌, length, reverse, vec_capacity};
+    ghost use Rattle.jobs.specs.Alone.{Alone};
+
+    ghost Value = { Alone V S };
+
+    ghost view = { λ job. record { state = job.state; writes = reverse job.writes.items } };
+
+    ghost invariant = { λ job. (length job.writes.items ≤ 16) × (16 ≤ vec_capacity job.writes) };
 }

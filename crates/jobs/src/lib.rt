@@ -3,9 +3,9 @@
 
 pub mod alone;
 pub mod beside;
+pub mod error;
 pub mod family;
 pub mod job;
 pub mod request;
-pub mod turn;
 pub mod writes;
 pub mod written;

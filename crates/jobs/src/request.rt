@@ -1,8 +1,9 @@
 // What a job asks for next.
+use calls::ending::Ending;
 
 #[derive(Clone, Copy)]
 pub enum Request<V> {
     Read { line: u32 },
     Write { line: u32, value: V },
-    End { code: u32, number: u32 },
+    End(Ending),
 }

@@ -2,8 +2,9 @@
 ghost use Rattle.families.specs.Laws.{CountsAreRight};
 ghost use Rattle.families.specs.Counts.{count};
 
-use super::{Count, CountState};
-use calls::order::Order;
+use super::{Count, Tally};
+use calls::ending::Ending;
+use calls::order::{BadOrder, Order};
 use jobs::family::Family;
 use jobs::request::Request;
 use survey::metres::MetresRow;
@@ -13,6 +14,7 @@ use survey::row::Row;
 pub const MOST_COUNTED: u32 = 64;
 
 impl Count {
+    #[tactic(auto, using(crate::proofs::Counting::counts_are_right))]
     pub fn new() -> Count
         ensures { CountsAreRight }
     {
@@ -21,51 +23,45 @@ impl Count {
 }
 
 impl Family for Count {
-    type State = CountState;
+    type State = Result<Tally, BadOrder>;
 
     type Value = MetresRow;
 
     ghost meaning = { λ _. count };
 
-    fn start(&self, order: Order) -> CountState {
+    fn start(&self, order: Order) -> Self::State {
         if order.kind != 0 || order.a > MOST_COUNTED {
-            return CountState::Bad;
+            return Err(BadOrder);
         }
-        CountState::Adding {
+        Ok(Tally {
             line: 0,
             end: order.a,
             sum: 0,
-        }
+        })
     }
 
-    fn request(&self, state: CountState) -> Request<MetresRow> {
+    fn request(&self, state: Self::State) -> Request<Self::Value> {
         match state {
-            CountState::Adding { line, end, sum } => {
-                if line < end {
-                    Request::Read { line }
-                } else {
-                    Request::End {
-                        code: 0,
-                        number: sum,
-                    }
-                }
-            }
-            CountState::Bad => Request::End { code: 9, number: 0 },
+            Ok(Tally { line, end, .. }) if line < end => Request::Read { line },
+            Ok(Tally { sum, .. }) => Request::End(Ending {
+                code: 0,
+                number: sum,
+            }),
+            Err(bad) => Request::End(Ending::from(bad)),
         }
     }
 
-    fn after_read(&self, state: CountState, value: MetresRow) -> CountState {
-        match state {
-            CountState::Adding { line, end, sum } => CountState::Adding {
-                line: line.saturating_add(1),
-                end,
-                sum: sum.saturating_add(value.or_blank().count()),
-            },
-            CountState::Bad => state,
-        }
+    fn after_read(&self, state: Self::State, value: MetresRow) -> Self::State {
+        let Tally { line, end, sum } = state?;
+        Ok(Tally {
+            line: line.saturating_add(1),
+            end,
+            sum: sum.saturating_add(value.or_blank().count()),
+        })
     }
 
-    fn after_write(&self, state: CountState) -> CountState {
+    // A count writes nothing.
+    fn after_write(&self, state: Self::State) -> Self::State {
         state
     }
 }

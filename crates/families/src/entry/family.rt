@@ -2,14 +2,16 @@
 ghost use Rattle.families.specs.Laws.{EntriesAreRight};
 ghost use Rattle.families.specs.Entries.{entry};
 
-use super::{Entry, EntryState};
+use super::{Entry, EntryRefusal, EntryState};
+use calls::ending::Ending;
 use calls::order::Order;
 use jobs::family::Family;
 use jobs::request::Request;
-use survey::leg::{Leg, LegRow, OPEN};
+use survey::leg::{Leg, LegRow};
 use survey::row::Row;
 
 impl Entry {
+    #[tactic(auto, using(crate::proofs::Entering::entries_are_right))]
     pub fn new() -> Entry
         ensures { EntriesAreRight }
     {
@@ -18,50 +20,49 @@ impl Entry {
 }
 
 impl Family for Entry {
-    type State = EntryState;
+    type State = Result<EntryState, EntryRefusal>;
 
     type Value = LegRow;
 
     ghost meaning = { λ _. entry };
 
-    fn start(&self, order: Order) -> EntryState {
+    fn start(&self, order: Order) -> Self::State {
+        // kept a number: each family has its own kinds, and one that stands beside another counts on from that one's, so no enum names them all
         match order.kind {
-            0 => match Leg::new(order.b, order.c, OPEN as u32, order.d) {
-                Ok(leg) => EntryState::Writing {
+            0 => {
+                let leg = Leg::open(order.b, order.c, order.d)?;
+                Ok(EntryState::Writing {
                     line: order.a,
-                    row: LegRow::of(leg),
-                },
-                Err(fault) => EntryState::Ended {
-                    code: 9,
-                    number: fault.number(),
-                },
-            },
-            1 => EntryState::Closing { line: order.a },
-            _ => EntryState::Ended { code: 9, number: 0 },
+                    row: LegRow::from(leg),
+                })
+            }
+            1 => Ok(EntryState::Closing { line: order.a }),
+            _ => Err(EntryRefusal::BadOrder),
         }
     }
 
-    fn request(&self, state: EntryState) -> Request<LegRow> {
+    fn request(&self, state: Self::State) -> Request<Self::Value> {
         match state {
-            EntryState::Closing { line } => Request::Read { line },
-            EntryState::Writing { line, row } => Request::Write { line, value: row },
-            EntryState::Ended { code, number } => Request::End { code, number },
+            Ok(EntryState::Closing { line }) => Request::Read { line },
+            Ok(EntryState::Writing { line, row }) => Request::Write { line, value: row },
+            Ok(EntryState::Written) => Request::End(Ending { code: 0, number: 0 }),
+            Err(refusal) => Request::End(Ending::from(refusal)),
         }
     }
 
-    fn after_read(&self, state: EntryState, value: LegRow) -> EntryState {
+    fn after_read(&self, state: Self::State, value: LegRow) -> Self::State {
         match state {
-            EntryState::Closing { line } => EntryState::Writing {
+            Ok(EntryState::Closing { line }) => Ok(EntryState::Writing {
                 line,
-                row: LegRow::of(value.or_blank().closed()),
-            },
+                row: LegRow::from(value.or_blank().closed()),
+            }),
             _ => state,
         }
     }
 
-    fn after_write(&self, state: EntryState) -> EntryState {
+    fn after_write(&self, state: Self::State) -> Self::State {
         match state {
-            EntryState::Writing { .. } => EntryState::Ended { code: 0, number: 0 },
+            Ok(EntryState::Writing { .. }) => Ok(EntryState::Written),
             _ => state,
         }
     }

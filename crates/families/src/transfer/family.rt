@@ -2,35 +2,37 @@
 ghost use Rattle.std.specs.Prelude.{◌≡◌};
 ghost use Rattle.families.specs.Laws.{TransfersAreRight};
 ghost use Rattle.families.specs.Transfers.{transfer, decided};
-ghost use Rattle.survey.specs.Formats.{or_blank};
-ghost use Rattle.survey.specs.Ropes.{metres_format};
 
-use super::{Transfer, TransferState};
+use super::{Move, Transfer, TransferRefusal, TransferState};
+use calls::ending::Ending;
 use calls::order::Order;
 use jobs::family::Family;
 use jobs::request::Request;
 use survey::metres::{MOST_METRES, Metres, MetresRow};
 use survey::row::Row;
 
-// Whether so many metres can go from a line that holds some to one that has some.
-fn decide(from: u32, to: u32, metres: u32, held: u32, there: Metres) -> TransferState
-    ensures { result ≡ decided from to metres held there.row.count }
-{
-    if held < metres {
-        return TransferState::Ended { code: 1 };
-    }
-    if metres > MOST_METRES - there.count() {
-        return TransferState::Ended { code: 2 };
-    }
-    TransferState::Taking {
-        from,
-        left: held - metres,
-        to,
-        total: there.count() + metres,
+impl Move {
+    // Whether the metres can go from a line that holds some to one that has some.
+    fn decide(self, held: u32, there: Metres) -> Result<TransferState, TransferRefusal>
+        ensures { result ≡ decided self held there.row.count }
+    {
+        if held < self.metres {
+            return Err(TransferRefusal::TooFew);
+        }
+        if self.metres > MOST_METRES - there.count() {
+            return Err(TransferRefusal::TooMany);
+        }
+        Ok(TransferState::Taking {
+            from: self.from,
+            left: held - self.metres,
+            to: self.to,
+            total: there.count() + self.metres,
+        })
     }
 }
 
 impl Transfer {
+    #[tactic(auto, using(crate::proofs::Moving::transfers_are_right))]
     pub fn new() -> Transfer
         ensures { TransfersAreRight }
     {
@@ -39,62 +41,56 @@ impl Transfer {
 }
 
 impl Family for Transfer {
-    type State = TransferState;
+    type State = Result<TransferState, TransferRefusal>;
 
     type Value = MetresRow;
 
     ghost meaning = { λ _. transfer };
 
-    fn start(&self, order: Order) -> TransferState {
+    fn start(&self, order: Order) -> Self::State {
         if order.kind != 0 || order.a == order.b {
-            return TransferState::Ended { code: 9 };
+            return Err(TransferRefusal::BadOrder);
         }
-        TransferState::Leaving {
+        Ok(TransferState::Leaving(Move {
             from: order.a,
             to: order.b,
             metres: order.c,
-        }
+        }))
     }
 
-    fn request(&self, state: TransferState) -> Request<MetresRow> {
+    fn request(&self, state: Self::State) -> Request<Self::Value> {
         match state {
-            TransferState::Leaving { from, .. } => Request::Read { line: from },
-            TransferState::Coming { to, .. } => Request::Read { line: to },
-            TransferState::Taking { from, left, .. } => Request::Write {
+            Ok(TransferState::Leaving(asked)) => Request::Read { line: asked.from },
+            Ok(TransferState::Coming { asked, .. }) => Request::Read { line: asked.to },
+            Ok(TransferState::Taking { from, left, .. }) => Request::Write {
                 line: from,
                 value: MetresRow { count: left },
             },
-            TransferState::Giving { to, total } => Request::Write {
+            Ok(TransferState::Giving { to, total }) => Request::Write {
                 line: to,
                 value: MetresRow { count: total },
             },
-            TransferState::Ended { code } => Request::End { code, number: 0 },
+            Ok(TransferState::Given) => Request::End(Ending { code: 0, number: 0 }),
+            Err(refusal) => Request::End(Ending::from(refusal)),
         }
     }
 
-    fn after_read(&self, state: TransferState, value: MetresRow) -> TransferState {
+    fn after_read(&self, state: Self::State, value: MetresRow) -> Self::State {
         let there = value.or_blank();
-        match state {
-            TransferState::Leaving { from, to, metres } => TransferState::Coming {
-                from,
-                to,
-                metres,
+        match state? {
+            TransferState::Leaving(asked) => Ok(TransferState::Coming {
+                asked,
                 held: there.count(),
-            },
-            TransferState::Coming {
-                from,
-                to,
-                metres,
-                held,
-            } => decide(from, to, metres, held, there),
+            }),
+            TransferState::Coming { asked, held } => asked.decide(held, there),
             _ => state,
         }
     }
 
-    fn after_write(&self, state: TransferState) -> TransferState {
+    fn after_write(&self, state: Self::State) -> Self::State {
         match state {
-            TransferState::Taking { to, total, .. } => TransferState::Giving { to, total },
-            TransferState::Giving { .. } => TransferState::Ended { code: 0 },
+            Ok(TransferState::Taking { to, total, .. }) => Ok(TransferState::Giving { to, total }),
+            Ok(TransferState::Giving { .. }) => Ok(TransferState::Given),
             _ => state,
         }
     }

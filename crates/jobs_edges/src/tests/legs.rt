@@ -1,13 +1,14 @@
 // Entries and searches alone, side by side.
 use book::book::Book;
 use book::flat::FlatBook;
+use calls::ending::Ending;
 use calls::order::Order;
 use families::entry::Entry;
 use jobs::alone::do_alone;
 use jobs::beside::Beside;
-use jobs::turn::Outcome;
+use jobs::error::JobError;
 use routes::family::Route;
-use std::alloc::{AllocError, Global};
+use std::alloc::Global;
 use std::test::Fail;
 use survey::leg::LegRow;
 
@@ -25,16 +26,17 @@ fn done(
     heap: Global,
     kind: u32,
     numbers: (u32, u32, u32, u32),
-) -> Result<((u32, u32, u32), LegRow), AllocError> {
+) -> Result<((u32, u32, u32), LegRow), JobError> {
     let mut memory = [open(0, 1, 5000), open(1, 2, 3000), open(0, 2, 9000)];
     let pair = Beside::new(Route, Entry::new());
     let (a, b, c, d) = numbers;
     let order = Order { kind, a, b, c, d };
     let mut book = FlatBook::new(&mut memory);
-    let came = match do_alone(heap, &pair, &mut book, order, 1000)? {
-        Outcome::Ended { code, number } => (0, code, number),
-        Outcome::Stuck(refusal) => (refusal.number(), 0, 0),
-        Outcome::Spent => (99, 0, 0),
+    let came = match do_alone(heap, &pair, &mut book, order, 1000) {
+        Ok(Some(Ending { code, number })) => (0, code, number),
+        Ok(None) => (99, 0, 0),
+        Err(JobError::Stuck(refusal)) => (refusal.number(), 0, 0),
+        Err(error) => return Err(error),
     };
     match book.read(1) {
         Ok(row) => Ok((came, row)),

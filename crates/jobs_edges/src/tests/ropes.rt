@@ -1,13 +1,14 @@
 // Transfers and counts alone, at their limits.
 use book::book::Book;
 use book::flat::FlatBook;
+use calls::ending::Ending;
 use calls::order::Order;
 use families::count::Count;
 use families::transfer::Transfer;
 use jobs::alone::do_alone;
 use jobs::beside::Beside;
-use jobs::turn::Outcome;
-use std::alloc::{AllocError, Global};
+use jobs::error::JobError;
+use std::alloc::Global;
 use std::test::Fail;
 use survey::metres::MetresRow;
 use survey::row::Row;
@@ -22,7 +23,7 @@ fn done(
     a: u32,
     b: u32,
     c: u32,
-) -> Result<((u32, u32, u32), [u32; 4]), AllocError> {
+) -> Result<((u32, u32, u32), [u32; 4]), JobError> {
     let mut memory = [
         MetresRow { count: 3 },
         MetresRow { count: 1_000_000 },
@@ -38,10 +39,11 @@ fn done(
         d: 77,
     };
     let mut book = FlatBook::new(&mut memory);
-    let came = match do_alone(heap, &pair, &mut book, order, 100)? {
-        Outcome::Ended { code, number } => (0, code, number),
-        Outcome::Stuck(refusal) => (refusal.number(), 0, 0),
-        Outcome::Spent => (99, 0, 0),
+    let came = match do_alone(heap, &pair, &mut book, order, 100) {
+        Ok(Some(Ending { code, number })) => (0, code, number),
+        Ok(None) => (99, 0, 0),
+        Err(JobError::Stuck(refusal)) => (refusal.number(), 0, 0),
+        Err(error) => return Err(error),
     };
     let mut after = [0; 4];
     for line in 0..4 {

@@ -1,45 +1,38 @@
-use Rattle.std.proofs.Common.{◌≡◌, ◌+◌, ◌-◌, sym, ap, ◌∙◌}
+use Rattle.std.proofs.Common.{◌+◌, ◌-◌, Ok, Err, Some, None, refl, sym, ap, ◌∙◌}
+use Rattle.std.proofs.lemmas.Result.{err_from_is_err_and}
 use Rattle.jobs.specs.Alone.{turn}
-use Rattle.jobs.specs.Doing.{alone, answer, left, done}
-use Rattle.jobs.specs.declared.turn.Turn.TheVariants.{Went, Stuck, Ended}
-use Rattle.jobs.proofs.Outcomes.{went, stuck, ended, went_leaves}
+use Rattle.jobs.specs.Doing.{done}
+use Rattle.jobs.proofs.Outcomes.{turned, still}
 use Rattle.jobs.proofs.alone.run.Goals as goal
 
-pub returns-in-Stuck : goal.returns-in-Stuck
-returns-in-Stuck g c =
-    let m = g.F.Family.meaning c.args.family.now in
-    let values = g.B.Book.lines c.args.book.now in
-    let a = alone c.loop-turn.job in
-    let same = c.loop-turn.invariant.0 in
-    let said : Stuck c.in-Stuck.refusal ≡ answer m values a = c.in-Stuck.ensures.answer ∙ ap (λ v. answer m v a) same in
-    let end = sym c.loop-turn.invariant.1 ∙ stuck m values c.args.turns c.loop-turn._turn c.loop-turn-test.true a c.in-Stuck.refusal said in
-    record {
-      outcome = sym (ap (λ d. d.outcome) end);
-      values = c.in-Stuck.ensures.left ∙ (ap (λ v. left m v a) same ∙ sym (ap (λ d. d.values) end));
-    }
+pub returns-in_err-ending : goal.returns-in_err-ending
+returns-in_err-ending g c =
+    let l = c.loop-turn in
+    let before = g.B.Book.lines l.book in
+    let stuck = Err c.in_err-ending.field-0.0 in
+    let p = err_from_is_err_and c.from_residual.result c.from_residual.ensures.1 in
+    rw (p.1, p.2)
+    (turned (g.F.Family.meaning c.args.family.now) (g.B.Book.lines c.args.book.now) c.args.turns l._turn c.loop-turn-test.true l.job before l.invariant.same stuck c.in_err-ending.ensures.answer (g.B.Book.lines c.turn.new.book) c.turn.ensures.left _ l.invariant.rest)
 
-pub returns-in-Ended : goal.returns-in-Ended
-returns-in-Ended g c =
-    let m = g.F.Family.meaning c.args.family.now in
-    let values = g.B.Book.lines c.args.book.now in
-    let a = alone c.loop-turn.job in
-    let same = c.loop-turn.invariant.0 in
-    let said : Ended c.in-Ended.code c.in-Ended.number ≡ answer m values a = c.in-Ended.ensures.answer ∙ ap (λ v. answer m v a) same in
-    let end = sym c.loop-turn.invariant.1 ∙ ended m values c.args.turns c.loop-turn._turn c.loop-turn-test.true a c.in-Ended.code c.in-Ended.number said in
-    record {
-      outcome = sym (ap (λ d. d.outcome) end);
-      values = c.in-Ended.ensures.left ∙ (ap (λ v. left m v a) same ∙ sym (ap (λ d. d.values) end));
-    }
+pub returns-in-Some : goal.returns-in-Some
+returns-in-Some g c =
+    let l = c.loop-turn in
+    let before = g.B.Book.lines l.book in
+    let ended = Ok (Some c.in-Some.ending) in
+    let said = ap (λ o. Ok o) (sym c.in-Some.is) ∙ c.in_ok-ending.ensures.answer in
+    turned (g.F.Family.meaning c.args.family.now) (g.B.Book.lines c.args.book.now) c.args.turns l._turn c.loop-turn-test.true l.job before l.invariant.same ended said (g.B.Book.lines c.turn.new.book) c.turn.ensures.left _ l.invariant.rest
 
 pub loop-turn-preserved : goal.loop-turn-preserved
 loop-turn-preserved g c =
+    let l = c.loop-turn in
     let m = g.F.Family.meaning c.args.family.now in
     let values = g.B.Book.lines c.args.book.now in
-    let a = alone c.loop-turn.job in
-    let same = c.loop-turn.invariant.0 in
-    let said : Went ≡ answer m values a = c.in-Went.ensures.answer ∙ ap (λ v. answer m v a) same in
-    let on : done m values (c.args.turns - (c.loop-turn._turn + 1)) (turn m values a) ≡ done m values c.args.turns (alone c.args.job.now) =
-    sym (went m values c.args.turns c.loop-turn._turn c.loop-turn-test.true a said) ∙ c.loop-turn.invariant.1 in (
-      c.in-Went.ensures.left ∙ (ap (λ v. left m v a) same ∙ went_leaves m values a (sym said)),
-      ap (done m values (c.args.turns - (c.loop-turn._turn + 1))) (c.in-Went.ensures.after ∙ ap (λ v. turn m v a) same) ∙ on,
-    )
+    let before = g.B.Book.lines l.book in
+    let after = g.B.Book.lines c.turn.new.book in
+    let said = ap (λ o. Ok o) (sym c.in_default.is) ∙ c.in_ok-ending.ensures.answer in
+    let job = c.turn.ensures.after ∙ ap (λ v. turn m v l.job) l.invariant.same in
+    record {
+      same = still m values c.args.turns l._turn c.loop-turn-test.true l.job before l.invariant.same (Ok None) said after c.turn.ensures.left refl;
+      rest = ap (done m values (c.args.turns - (l._turn + 1))) job
+          ∙ turned m values c.args.turns l._turn c.loop-turn-test.true l.job before l.invariant.same (Ok None) said after c.turn.ensures.left _ l.invariant.rest;
+    }

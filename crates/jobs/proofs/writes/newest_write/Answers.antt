@@ -1,17 +1,15 @@
-use Rattle.std.proofs.Common.{sym, ap, ◌∙◌}
-use Rattle.jobs.specs.Alone.{newest}
-use Rattle.jobs.proofs.Newest.{newest_hit, newest_miss, reverse_all}
+use Rattle.std.proofs.Common.{rules, tests, ◌≡◌, ◌==◌, reverse, ap, ◌∙◌}
+use Rattle.std.specs.Option.{option_map}
+use Rattle.std.specs.List.{find}
+use Rattle.std.proofs.lemmas.Iterator.Adapters.{YieldsList-from_rev_slice}
+use Rattle.std.proofs.lemmas.Iterator.Search.{find_from_yields_List}
+use Rattle.jobs.proofs.Newest.{first_to_line}
 use Rattle.jobs.proofs.writes.newest_write.Goals as goal
-use Rattle.jobs.proofs.writes.newest_write.Goals.{then-write-line, else-write-line}
-
-pub loop-write-preserved : goal.loop-write-preserved
-loop-write-preserved g c =
-    let ws = c.args.writes.now in
-    let i = c.loop-write.write-index in
-    elim c.if-write-line.branch [
-      | then-write-line w ↦ w.value-is ∙ sym (newest_hit ws i c.write-item.result c.loop-write-test.true c.write-item.is c.args.line w.if-write-line.true)
-      | else-write-line w ↦ w.value-is ∙ (c.loop-write.invariant ∙ sym (newest_miss ws i c.write-item.result c.loop-write-test.true c.write-item.is c.args.line w.if-write-line.false))
-    ]
 
 pub returns : goal.returns
-returns g c = c.loop-write.invariant ∙ ap (λ r. newest r c.args.line) (reverse_all c.args.writes.now c.loop-write.write-index c.loop-write-test.false)
+returns g c =
+    let writes = c.args.writes.now in
+    let found : option_map (λ w. w.now) c.find.result ≡ find (λ w. w.line == c.args.line) (reverse writes) =
+    find_from_yields_List (λ w. w.line == c.args.line) _ _ c.find.result c.find.ensures.ran (YieldsList-from_rev_slice writes cc) (λ x b q k. search (rules, tests)) in
+    let value : c.map.result ≡ option_map (λ w. w.value) (option_map (λ w. w.now) c.find.result) = search rules in
+    value ∙ (ap (option_map (λ w. w.value)) found ∙ first_to_line (reverse writes) c.args.line)

@@ -1,0 +1,21 @@
+// What users see of an entry that is refused.
+ghost use Rattle.std.specs.Prelude.{◌≡◌};
+ghost use Rattle.families.specs.Entries.{refused};
+
+use super::EntryRefusal;
+use calls::ending::Ending;
+use calls::order::BadOrder;
+
+impl From<EntryRefusal> for Ending {
+    ghost from_gives = { λ refusal ending. ending ≡ refused refusal };
+
+    fn from(refusal: EntryRefusal) -> Ending {
+        match refusal {
+            EntryRefusal::Impossible(fault) => Ending {
+                code: 9,
+                number: fault.number(),
+            },
+            EntryRefusal::BadOrder => Ending::from(BadOrder),
+        }
+    }
+}
