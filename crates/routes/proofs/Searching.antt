@@ -13,16 +13,16 @@ use Rattle.routes.specs.declared.search.Search.{Search}
 use Rattle.routes.specs.declared.search.Next.{Next}
 use Rattle.routes.specs.declared.search.Next.TheVariants.{Line, Ended}
 use Rattle.routes.specs.declared.reach.Nearest.{Nearest}
-use Rattle.routes.specs.declared.reach.Reach.{Reach}
-use Rattle.routes.specs.Reaches.{nearest_of}
+use Rattle.routes.specs.declared.reach.Station.{Station}
+use Rattle.routes.specs.Reaches.{reached_first, marked, nearest_of}
 use Rattle.routes.specs.Searches.{route_family, bad_order, request_of, chosen, begun_at, first_next, first_search, refused}
 use Rattle.routes.specs.Routes.{Among, Route, here, onward, Least, Right, legs_of, Searched, SearchesAreRight, EndedSearchesAreRight}
 use Rattle.routes.specs.Answers.{still, length_found, Answers}
 use Rattle.routes.proofs.Legs.{all_in_range}
 use Rattle.routes.proofs.Relaxing.{relaxed_all}
 use Rattle.routes.proofs.Choosing.{IsNearest, nearest_is}
-use Rattle.routes.proofs.Flags.{left_set}
-use Rattle.routes.proofs.Finishing.{Before, After, finish, no_route, least_way, goes_on, still_unfinished, begins, first_unfinished, first_reach, first_finished}
+use Rattle.routes.proofs.Flags.{is_finished, distance_at, left_set}
+use Rattle.routes.proofs.Finishing.{Before, After, finish, finish_marks, no_route, least_way, goes_on, still_unfinished, begins, first_unfinished}
 use Rattle.routes.proofs.Turns.{turns_add, ended_since, ends_alike}
 use Rattle.routes.proofs.Passing.{at_line, a_pass, lines_read, waits}
 
@@ -78,9 +78,9 @@ module _ (rows : List LegRow) (a b c : ℕ) where
     ranges = all_in_range (take c rows)
 
     -- after a pass: the search ends rightly, or goes on with one pass less to come
-    module _ {m limit : ℕ} {r : Reach} {fs : List Bool} (k : After legs a m limit r fs) (unfinished : get_or fs b false ≡ false)
-        (again : (u : ℕ) (gs : List Bool) → Before legs a m u r gs → get_or gs b false ≡ false → Outcome (m * c) (still (at_line b c u 0 r gs))) where
-      next_pass : (best : Option Nearest) → IsNearest r.distances fs 16 best → Outcome (m * c) (still (chosen b c r fs best))
+    module _ {m limit : ℕ} {ss : List Station} (k : After legs a m limit ss) (unfinished : is_finished ss b ≡ false)
+        (again : (u : ℕ) (ts : List Station) → Before legs a m u ts → is_finished ts b ≡ false → Outcome (m * c) (still (at_line b c u 0 ts))) where
+      next_pass : (best : Option Nearest) → IsNearest ss 16 best → Outcome (m * c) (still (chosen b c (record { stations = ss }) best))
       next_pass None s = at_once (m * c) 1 0 _ refl (inr (refl, refl, no_route legs a ranges k b unfinished s))
       next_pass (Some n) s =
           elim (cases_eq n.station b) [
@@ -91,18 +91,19 @@ module _ (rows : List LegRow) (a b c : ℕ) where
             | inr q ↦
                 let g = cond-false (eqb n.station b) _ _ (ne_eqb n.station b q) in
                 subst (λ (x : Search). Outcome (m * c) (still x)) (sym g)
-                (again n.station (set fs n.station true) (goes_on legs a ranges k b unfinished n s) (still_unfinished legs a ranges k b unfinished n s q))
+                (again n.station (marked n.station ss) (goes_on legs a ranges k b unfinished n s) (still_unfinished legs a ranges k b unfinished n s q))
           ]
 
     -- by the passes to come: while the target is not finished, a station is left
-    run : (m u : ℕ) (r : Reach) (fs : List Bool) → Before legs a m u r fs → get_or fs b false ≡ false → Outcome (m * c) (still (at_line b c u 0 r fs))
-    run zero u r fs p e = absurd (let q : ⊥ = omega (arith, left_set fs b (omega (arith, p.known.flags)) e, p.left) in q)
-    run (suc m) u r fs p e =
-        let s = relaxed_all u legs r in
-        let k = finish legs a ranges m u r fs p in
-        let o = next_pass k e (λ v gs q f. run m v s gs q f) (nearest_of s.distances fs) (nearest_is s.distances fs) in
-        let read : (j : ℕ) → j < c → asks (after j (still (at_line b c u 0 r fs))) ≡ Read j = λ j h. ap asks (lines_read rows b c u fs enough r j h).1 in
-        subst (λ (n : ℕ). Outcome n (still (at_line b c u 0 r fs))) (sym (suc-mul m c)) (later (m * c) _ _ read (a_pass rows b c u fs enough c r refl some-line) o)
+    run : (m u : ℕ) (ss : List Station) → Before legs a m u ss → is_finished ss b ≡ false → Outcome (m * c) (still (at_line b c u 0 ss))
+    run zero u ss p e = absurd (let q : ⊥ = omega (arith, left_set ss b (record { distance = distance_at ss b; finished = true }) refl (omega (arith, p.known.size)) e, p.left) in q)
+    run (suc m) u ss p e =
+        let passed = relaxed_all u legs ss in
+        let k = finish legs a ranges m u ss p in
+        let f : is_finished passed b ≡ false = finish_marks legs a ranges m u ss p b ∙ e in
+        let o = next_pass k f (λ v ts q g. run m v ts q g) (nearest_of passed) (nearest_is passed) in
+        let read : (j : ℕ) → j < c → asks (after j (still (at_line b c u 0 ss))) ≡ Read j = λ j h. ap asks (lines_read rows b c u enough ss j h).1 in
+        subst (λ (n : ℕ). Outcome n (still (at_line b c u 0 ss))) (sym (suc-mul m c)) (later (m * c) _ _ read (a_pass rows b c u enough c ss refl some-line) o)
 
 -- without legs a route stays where it is
 no_legs : {a v d : ℕ} → Route [] a v d → a ≡ v
@@ -138,7 +139,7 @@ module _ (rows : List LegRow) (a b c : ℕ) where
               | inr z ↦
                   let legs = legs_of rows c in
                   subst (λ (x : Next). Outcome rows a b c (15 * c) (still (begun_at a b c x))) (sym (begins_reading n z))
-                  (run rows a b c target (omega arith) enough 15 a (first_reach legs a inside) (first_finished legs a inside) (begins legs a inside) (first_unfinished legs a inside b n))
+                  (run rows a b c target (omega arith) enough 15 a (reached_first a) (begins legs a inside) (first_unfinished legs a inside b n))
             ]
       ]
 
@@ -155,7 +156,7 @@ module _ (o : Order) (rows : List LegRow) (good : bad_order o ≡ false) where
   never_ends : length rows < o.c → (o.a ≡ o.b → ⊥) → (k code number : ℕ) → asks (turns route_family rows k (begun route_family o)) ≡ End code number → ⊥
   never_ends lacking n k code number e =
       let f : first_search o ≡ begun_at o.a o.b o.c (Line o.a 0) = sym first_is ∙ ap (begun_at o.a o.b o.c) (begins_reading rows o.a o.b o.c n (omega arith)) in
-      let w = waits rows o.b o.c o.a _ lacking _ k in
+      let w = waits rows o.b o.c o.a lacking _ k in
       let g = ap (λ (s : Search). turns route_family rows k (still s)) f ∙ w.is in
       let q : ◌≡◌ {A = Request LegRow} (Read w.line) (End code number) = sym (ap asks g) ∙ e in
       let z : ◌≡◌ {A = ℕ} 0 1 = cc in

@@ -3,7 +3,7 @@ ghost use Rattle.std.specs.Prelude.{◌≡◌, ◌<◌};
 ghost use Rattle.routes.specs.Searches.{refused, begun_at, first_next, choose, line_done, after_row};
 ghost use Rattle.routes.specs.Answers.{length_found};
 
-use crate::reach::{Reach, STATIONS, UNREACHED};
+use crate::reach::Reach;
 use survey::leg::LegRow;
 use survey::row::Row;
 
@@ -31,8 +31,6 @@ pub struct Search {
     pub count: u8,
     pub next: Next,
     pub reach: Reach,
-    // A station is finished once its least distance is known; it is marked when it is chosen.
-    pub finished: [bool; STATIONS],
 }
 
 impl Search {
@@ -47,10 +45,7 @@ impl Search {
                 code: BAD_ORDER,
                 number: 0,
             },
-            reach: Reach {
-                distances: [UNREACHED; STATIONS],
-            },
-            finished: [false; STATIONS],
+            reach: Reach::nowhere(),
         }
     }
 
@@ -59,50 +54,40 @@ impl Search {
         requires { from < 16 }
         ensures { result ≡ begun_at from to count (first_next from to count) }
     {
-        let mut distances = [UNREACHED; STATIONS];
-        distances[from as usize] = 0;
-        let mut finished = [false; STATIONS];
-        finished[from as usize] = true;
         Search {
             target: to,
             count,
             next: first_next(from, to, count),
-            reach: Reach { distances },
-            finished,
+            reach: Reach::first(from),
         }
     }
 
     // Goes on with the nearest unfinished station, unless that is the target, or none is reached.
     fn choose_next(&mut self)
-        ensures { self.new ≡ choose self.old.target self.old.count self.old.reach self.old.finished }
+        ensures { self.new ≡ choose self.old.target self.old.count self.old.reach }
     {
-        match self.reach.nearest(&self.finished) {
-            None => {
-                self.next = Next::Ended {
-                    code: NO_ROUTE,
-                    number: 0,
-                };
-            }
+        self.next = match self.reach.nearest() {
+            None => Next::Ended {
+                code: NO_ROUTE,
+                number: 0,
+            },
+            Some(nearest) if nearest.station == self.target => Next::Ended {
+                code: FOUND,
+                number: nearest.distance,
+            },
             Some(nearest) => {
-                if nearest.station == self.target {
-                    self.next = Next::Ended {
-                        code: FOUND,
-                        number: nearest.distance,
-                    };
-                } else {
-                    self.finished[nearest.station as usize] = true;
-                    self.next = Next::Line {
-                        station: nearest.station,
-                        line: 0,
-                    };
+                self.reach.finish(nearest.station);
+                Next::Line {
+                    station: nearest.station,
+                    line: 0,
                 }
             }
-        }
+        };
     }
 
     // Goes on once a line was taken into account: with the next line, or after the last one with the next station.
     fn finish_line(&mut self, station: u8, line: u8)
-        ensures { self.new ≡ line_done self.old.target self.old.count station line self.old.reach self.old.finished }
+        ensures { self.new ≡ line_done self.old.target self.old.count station line self.old.reach }
     {
         if self.count.saturating_sub(line) > 1 {
             self.next = Next::Line {

@@ -11,6 +11,6 @@ pub returns : goal.returns
 returns g c =
     let o = c.args.order in
     let rows = g.B.Book.lines c.args.book.now in
-    let last = c.take_turns-last in
-    let e = ap (λ (s : Search). turns route_family rows (15 * o.c) (still s)) (sym c.start-first.ensures) ∙ last.ensures in
-    subst (Answers (legs_of rows o.c) o.a o.b) (sym c.length_found.ensures) (answer_is_right o rows c.requires.good c.requires.enough last.result e)
+    let last = c.take_turns.new.search in
+    let e = ap (λ (s : Search). turns route_family rows (15 * o.c) (still s)) (sym c.start-search.ensures) ∙ c.take_turns.ensures in
+    subst (Answers (legs_of rows o.c) o.a o.b) (sym c.length_found.ensures) (answer_is_right o rows c.requires.good c.requires.enough last e)

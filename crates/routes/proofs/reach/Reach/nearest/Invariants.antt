@@ -2,5 +2,5 @@ use Rattle.std.proofs.Common.{◌≡◌}
 use Rattle.routes.specs.Reaches.{nearest_below}
 use Rattle.routes.proofs.reach.Reach.nearest.Given as goal
 
-abbrev pub invariant-loop-station : goal.invariant-loop-station
-invariant-loop-station l = l.best ≡ nearest_below l.self.distances l.finished l.station
+abbrev pub invariant-loop-number : goal.invariant-loop-number
+invariant-loop-number l = l.best ≡ nearest_below l.self.stations l.number
