@@ -15,7 +15,7 @@ use Rattle.routes.specs.declared.reach.Station.{Station}
 use Rattle.routes.specs.Reaches.{relaxed}
 use Rattle.routes.specs.Searches.{route_family, request_of, after_row, choose, line_done}
 use Rattle.routes.specs.Answers.{still, asked_row}
-use Rattle.routes.proofs.Turns.{turns_front}
+use Rattle.jobs.proofs.Turns.{turns_front}
 use Rattle.routes.proofs.Relaxing.{relaxed_all}
 
 -- a turn that reads a line, by what the list has there
@@ -35,11 +35,11 @@ module _ (rows : List LegRow) (s : Search) where
   took (Line u l) e row f =
       let asks : Read l ≡ route_family.request s = ap request_of (sym e) in
       turn_reads rows s l asks row f ∙ ap (λ (n : Next). still (after_row s row n)) e
-  took (Ended code number) e row f = let z : ◌≡◌ {A = ℕ} 0 1 = cc in absurd (let q : ⊥ = omega arith in q)
+  took (Ended found) e row f = let z : ◌≡◌ {A = ℕ} 0 1 = cc in absurd (let q : ⊥ = omega arith in q)
 
   rested : (n : Next) → s.next ≡ n → asked_row rows n ≡ None → turn route_family rows (still s) ≡ still s
   rested (Line u l) e f = reads_so rows s l (ap request_of (sym e)) None f
-  rested (Ended code number) e f = ap (turn_at route_family rows (still s)) (ap request_of e)
+  rested (Ended found) e f = ap (turn_at route_family rows (still s)) (ap request_of e)
 
   pub turn_takes : (row : LegRow) → asked_row rows s.next ≡ Some row → turn route_family rows (still s) ≡ still (after_row s row s.next)
   turn_takes row e = took s.next refl row e

@@ -1,5 +1,5 @@
 -- What a search of a book alone answers.
-use Rattle.std.specs.Prelude.{◌≡◌, ℕ, ◌<◌, ◌≤◌, true, false, cond, List, [], length, Some, None, Ok, Err, Option, Result, ◌==◌}
+use Rattle.std.specs.Prelude.{◌≡◌, ℕ, ◌<◌, ◌≤◌, true, false, List, [], length, Some, None, Ok, Err, Option, Result}
 use Rattle.std.specs.List.{slice_get}
 use Rattle.survey.specs.declared.leg.LegRow.{LegRow}
 use Rattle.calls.specs.declared.order.Order.{Order}
@@ -19,12 +19,13 @@ still s = record { state = s; writes = [] }
 -- the row that a search asks for, where the list has it
 abbrev pub asked_row : List LegRow → Next → Option LegRow
 asked_row rows (Line u l) = slice_get rows l
-asked_row rows (Ended code number) = None
+asked_row rows (Ended found) = None
 
 -- the length that a search ended with, if it found a route
 abbrev pub length_found : Next → Option ℕ
 length_found (Line u l) = None
-length_found (Ended code number) = cond (code == 0) (Some number) None
+length_found (Ended (Ok found)) = found
+length_found (Ended (Err bad)) = None
 
 -- the order of a search
 abbrev pub route_order : ℕ → ℕ → ℕ → Order

@@ -1,8 +1,11 @@
 -- The four functions of the route family.
-use Rattle.std.specs.Prelude.{ℕ, ◌+◌, Bool, cond, ◌||◌, List, Some, None, Option, ◌==◌, nat_lt}
+use Rattle.std.specs.Prelude.{ℕ, ◌+◌, Bool, cond, ◌||◌, List, Some, None, Ok, Err, Option, Result, ◌==◌, nat_lt}
 use Rattle.survey.specs.declared.leg.LegRow.{LegRow}
 use Rattle.survey.specs.Legs.{as_leg}
+use Rattle.calls.specs.declared.ending.Ending.{Ending}
 use Rattle.calls.specs.declared.order.Order.{Order}
+use Rattle.calls.specs.declared.order.BadOrder.{BadOrder}
+use Rattle.calls.specs.Endings.{bad_ending}
 use Rattle.jobs.specs.declared.request.Request.{Request}
 use Rattle.jobs.specs.declared.request.Request.TheVariants.{Read, End}
 use Rattle.jobs.specs.Meanings.{Meaning}
@@ -18,28 +21,34 @@ abbrev pub bad_order : Order → Bool
 bad_order o = nat_lt 0 o.kind || (nat_lt 15 o.a || (nat_lt 15 o.b || nat_lt 64 o.c))
 
 -- the search of a bad order, in which no station is reached
-abbrev pub refused : Search
-refused = record { target = 0; count = 0; next = Ended 9 0; reach = record { stations = all_unknown } }
+abbrev pub refused : BadOrder → Search
+refused bad = record { target = 0; count = 0; next = Ended (Err bad); reach = record { stations = all_unknown } }
 
 -- the station a is the first to be finished, unless it is the target, or there is no line to read
 abbrev pub first_next : ℕ → ℕ → ℕ → Next
-first_next a b c = cond (a == b) (Ended 0 0) (cond (c == 0) (Ended 1 0) (Line a 0))
+first_next a b c = cond (a == b) (Ended (Ok (Some 0))) (cond (c == 0) (Ended (Ok None)) (Line a 0))
 
-abbrev pub begun_at : ℕ → ℕ → ℕ → Next → Search
-begun_at a b c n = record { target = b; count = c; next = n; reach = record { stations = reached_first a } }
+abbrev pub begun_at : ℕ → ℕ → ℕ → Search
+begun_at a b c = record { target = b; count = c; next = first_next a b c; reach = record { stations = reached_first a } }
 
 abbrev pub first_search : Order → Search
-first_search o = cond (bad_order o) refused (begun_at o.a o.b o.c (first_next o.a o.b o.c))
+first_search o = cond (bad_order o) (refused (record {})) (begun_at o.a o.b o.c)
+
+-- 0 with the least length, 1 with 0 where there is no route, or what a bad order is answered
+abbrev pub ending_of : Result (Option ℕ) BadOrder → Ending
+ending_of (Ok (Some d)) = record { code = 0; number = d }
+ending_of (Ok None) = record { code = 1; number = 0 }
+ending_of (Err bad) = bad_ending
 
 abbrev pub request_of : Next → Request LegRow
 request_of (Line u l) = Read l
-request_of (Ended code number) = End code number
+request_of (Ended found) = End (ending_of found)
 
 -- on to the nearest unfinished station, unless that is the target, or none is reached
 abbrev pub chosen : ℕ → ℕ → Reach → Option Nearest → Search
-chosen t c r None = record { target = t; count = c; next = Ended 1 0; reach = r }
+chosen t c r None = record { target = t; count = c; next = Ended (Ok None); reach = r }
 chosen t c r (Some n) =
-    cond (n.station == t) (record { target = t; count = c; next = Ended 0 n.distance; reach = r })
+    cond (n.station == t) (record { target = t; count = c; next = Ended (Ok (Some n.distance)); reach = r })
     (record { target = t; count = c; next = Line n.station 0; reach = record { stations = marked n.station r.stations } })
 
 abbrev pub choose : ℕ → ℕ → Reach → Search
@@ -51,7 +60,7 @@ line_done t c u l r = cond (nat_lt (l + 1) c) (record { target = t; count = c; n
 
 abbrev pub after_row : Search → LegRow → Next → Search
 after_row s row (Line u l) = line_done s.target s.count u l (record { stations = relaxed u (as_leg row) s.reach.stations })
-after_row s row (Ended code number) = s
+after_row s row (Ended found) = s
 
 abbrev pub route_family : Meaning LegRow Search
 route_family =

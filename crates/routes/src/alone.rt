@@ -1,16 +1,15 @@
 // A search of a book alone.
-ghost use Rattle.std.specs.Prelude.{◌≡◌, ◌≤◌, false, length};
+ghost use Rattle.std.specs.Prelude.{◌≡◌, ◌≤◌, length};
 ghost use Rattle.jobs.specs.Alone.{turns};
-ghost use Rattle.routes.specs.Searches.{bad_order, route_family};
+ghost use Rattle.routes.specs.Searches.{route_family};
 ghost use Rattle.routes.specs.Routes.{legs_of, SearchesAreRight, EndedSearchesAreRight};
 ghost use Rattle.routes.specs.Answers.{still, asked_row, route_order, Answers, Answered};
 
-use crate::family::{Route, is_bad};
+use crate::errand::Errand;
 use crate::refusal::SearchRefusal;
 use crate::search::{Next, Search};
 use book::book::Book;
 use calls::order::Order;
-use jobs::family::Family;
 use survey::leg::LegRow;
 
 // At most so many stations are finished with a pass over the lines: the target needs none.
@@ -38,14 +37,13 @@ fn take_turns<B: Book<Value = LegRow>>(book: &B, search: &mut Search, count: u32
     }
 }
 
-// What the job of an order answers on a book that has its lines.
-fn answer<B: Book<Value = LegRow>>(book: &B, order: Order) -> Option<u32>
-    requires good { bad_order order ≡ false }
-    requires enough { order.c ≤ length (B.lines book.now) }
-    ensures { Answers (legs_of (B.lines book.now) order.c) order.a order.b result }
+// What the job of an errand answers on a book that has its lines.
+fn answer<B: Book<Value = LegRow>>(book: &B, errand: Errand) -> Option<u32>
+    requires { errand.count ≤ length (B.lines book.now) }
+    ensures { Answers (legs_of (B.lines book.now) errand.count) errand.from errand.to result }
 {
-    let mut search = Route.start(order);
-    take_turns(book, &mut search, MOST_PASSES * order.c);
+    let mut search = Search::begin(errand);
+    take_turns(book, &mut search, MOST_PASSES * u32::from(errand.count));
     search.length_found()
 }
 
@@ -53,13 +51,11 @@ fn answer<B: Book<Value = LegRow>>(book: &B, order: Order) -> Option<u32>
 fn search<B: Book<Value = LegRow>>(book: &B, order: Order) -> Result<Option<u32>, SearchRefusal>
     ensures { Answered (B.lines book.now) order result }
 {
-    if is_bad(order) {
-        return Err(SearchRefusal::BadOrder);
-    }
-    if book.size() < order.c as usize {
+    let errand = Errand::try_from(order)?;
+    if book.size() < errand.count as usize {
         return Err(SearchRefusal::NoLine);
     }
-    Ok(answer(book, order))
+    Ok(answer(book, errand))
 }
 
 // What is known of every search on every book, whoever does its turns.

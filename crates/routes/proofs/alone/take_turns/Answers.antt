@@ -2,7 +2,7 @@ use Rattle.std.proofs.Common.{◌≡◌, None, Option, arith}
 use Rattle.survey.specs.declared.leg.LegRow.{LegRow}
 use Rattle.routes.specs.Searches.{route_family}
 use Rattle.routes.specs.Answers.{still, asked_row}
-use Rattle.routes.proofs.Turns.{stands_since}
+use Rattle.jobs.proofs.Turns.{stands_since}
 use Rattle.routes.proofs.Passing.{turn_rests}
 use Rattle.routes.proofs.alone.take_turns.Goals as goal
 
