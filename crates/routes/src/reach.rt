@@ -1,6 +1,6 @@
 // How far the stations are by the routes that a search has found, and the nearest that it has not finished.
 ghost use Rattle.std.specs.Prelude.{◌≡◌, ◌<◌, ◌≤◌};
-ghost use Rattle.routes.specs.Reaches.{all_unknown, reached_first, station_at, is_shorter, improved, relaxed, marked, with_station, nearest_of, Inside};
+ghost use Rattle.routes.specs.Reaches.{unknown, all_unknown, reached_first, station_at, improved, relaxed, marked, with_station, nearest_of, Inside};
 
 use survey::leg::Leg;
 
@@ -29,19 +29,30 @@ pub struct Nearest {
 }
 
 impl Station {
+    // A station to which no route was found.
+    fn unknown() -> Station
+        ensures { result ≡ unknown }
+    {
+        Station {
+            distance: None,
+            finished: false,
+        }
+    }
+
     // The nearer of `best` and this station, unless it is finished or not reached.
     fn nearer(self, number: u8, best: Option<Nearest>) -> Option<Nearest>
         ensures { result ≡ with_station self number best }
     {
-        match self.distance {
-            Some(distance) if !self.finished && best.is_none_or(|best| distance < best.distance) =>
-                {
-                    Some(Nearest {
-                        station: number,
-                        distance,
-                    })
-                }
-            _ => best,
+        let Some(distance) = self.distance else {
+            return best;
+        };
+        if !self.finished && best.is_none_or(|best| distance < best.distance) {
+            Some(Nearest {
+                station: number,
+                distance,
+            })
+        } else {
+            best
         }
     }
 }
@@ -51,12 +62,8 @@ impl Reach {
     pub(crate) fn nowhere() -> Reach
         ensures { result.stations ≡ all_unknown }
     {
-        let unknown = Station {
-            distance: None,
-            finished: false,
-        };
         Reach {
-            stations: [unknown; STATIONS],
+            stations: [Station::unknown(); STATIONS],
         }
     }
 
@@ -73,10 +80,13 @@ impl Reach {
         reach
     }
 
-    fn distance(&self, station: u8) -> Option<u32>
-        ensures { result ≡ (station_at self.now.stations station).distance }
+    fn station(&self, number: u8) -> Station
+        ensures { result ≡ station_at self.now.stations number }
     {
-        self.stations.get(station as usize)?.distance
+        self.stations
+            .get(number as usize)
+            .copied()
+            .unwrap_or(Station::unknown())
     }
 
     // Notes a route of length `distance` to a station, if one was `found` and it is shorter.
@@ -94,7 +104,7 @@ impl Reach {
     pub(crate) fn relax(&mut self, station: u8, leg: Leg)
         ensures { self.new.stations ≡ relaxed station leg.row self.old.stations }
     {
-        let Some(distance) = self.distance(station) else {
+        let Some(distance) = self.station(station).distance else {
             return;
         };
         let along = distance.saturating_add(leg.length());
@@ -116,8 +126,8 @@ impl Reach {
         ensures inside { Inside result }
     {
         let mut best = None;
-        for (number, station) in self.stations.iter().enumerate() {
-            best = station.nearer(number as u8, best);
+        for number in 0..STATIONS as u8 {
+            best = self.station(number).nearer(number, best);
         }
         best
     }
