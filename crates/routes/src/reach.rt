@@ -46,7 +46,7 @@ impl Station {
         let Some(distance) = self.distance else {
             return best;
         };
-        if !self.finished && best.is_none_or(|best| distance < best.distance) {
+        if !self.finished && distance < best.map_or(u32::MAX, |best| best.distance) {
             Some(Nearest {
                 station: number,
                 distance,
@@ -125,10 +125,9 @@ impl Reach {
         ensures value { result ≡ nearest_of self.now.stations }
         ensures inside { Inside result }
     {
-        let mut best = None;
-        for number in 0..STATIONS as u8 {
-            best = self.station(number).nearer(number, best);
-        }
-        best
+        (0..STATIONS as u8).fold(
+            None,
+            |best, number| self.station(number).nearer(number, best),
+        )
     }
 }
