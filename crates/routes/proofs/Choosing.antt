@@ -1,10 +1,10 @@
 -- What is known of the nearest unfinished station.
-use Rattle.std.proofs.Common.{◌≡◌, ℕ, zero, suc, ◌+◌, ◌<◌, ◌≤◌, Bool, true, false, cond, ltb, List, Some, None, Option, refl, sym, ap, ◌∙◌, subst, inl, inr, add-zero, add-one, arith}
+use Rattle.std.proofs.Common.{◌≡◌, ℕ, zero, suc, ◌+◌, ◌<◌, ◌≤◌, Bool, true, false, cond, List, Some, None, Option, refl, sym, ap, ◌∙◌, subst, inl, inr, add-zero, add-one, arith}
 use Rattle.std.specs.List.{fold, range_with_len}
 use Rattle.std.proofs.lemmas.Bool.{ltb-true, ltb-false, cases_order, both_ways}
 use Rattle.routes.specs.declared.reach.Nearest.{Nearest}
 use Rattle.routes.specs.declared.reach.Station.{Station}
-use Rattle.routes.specs.Reaches.{to_beat, nearer, with_station, station_at, nearest_below, nearest_of, Inside}
+use Rattle.routes.specs.Reaches.{is_shorter, distance_of, nearer, with_station, station_at, nearest_below, nearest_of, Inside}
 use Rattle.routes.proofs.Flags.{is_finished, distance_at}
 
 module _ (ss : List Station) where
@@ -18,19 +18,24 @@ module _ (ss : List Station) where
   Found i None = Unit {0}
   Found i (Some n) = Candidate i n
 
+  -- the best station is reached at d or less
+  abbrev pub Beats : ℕ → Option Nearest → Type 0
+  Beats d None = ⊥
+  Beats d (Some n) = n.distance ≤ d
+
   -- none of the unfinished stations below i is nearer
   pub record IsNearest (i : ℕ) (best : Option Nearest) : Type 0 where
     pub is : Found i best
-    pub low : (j d : ℕ) → j < i → is_finished ss j ≡ false → distance_at ss j ≡ Some d → to_beat best ≤ d
+    pub low : (j d : ℕ) → j < i → is_finished ss j ≡ false → distance_at ss j ≡ Some d → Beats d best
 
   found_more : (i : ℕ) (best : Option Nearest) → Found i best → Found (suc i) best
   found_more i None k = tt
   found_more i (Some n) k = record { inside = omega (arith, k.inside); unfinished = k.unfinished; reached = k.reached }
 
   -- what holds of the unfinished stations below i, and of i, holds of those below the next
-  low_more : (i limit : ℕ) → ((j d : ℕ) → j < i → is_finished ss j ≡ false → distance_at ss j ≡ Some d → limit ≤ d)
-      → ((d : ℕ) → is_finished ss i ≡ false → distance_at ss i ≡ Some d → limit ≤ d) → (j d : ℕ) → j < suc i → is_finished ss j ≡ false → distance_at ss j ≡ Some d → limit ≤ d
-  low_more i limit below here j d l h e =
+  low_more : (P : ℕ → Type 0) (i : ℕ) → ((j d : ℕ) → j < i → is_finished ss j ≡ false → distance_at ss j ≡ Some d → P d)
+      → ((d : ℕ) → is_finished ss i ≡ false → distance_at ss i ≡ Some d → P d) → (j d : ℕ) → j < suc i → is_finished ss j ≡ false → distance_at ss j ≡ Some d → P d
+  low_more P i below here j d l h e =
       elim (cases_order j i) [
         | inl q ↦ here d (subst (λ (y : ℕ). is_finished ss y ≡ false) q h) (subst (λ (y : ℕ). distance_at ss y ≡ Some d) q e)
         | inr o ↦ below j d (elim o [ inl a ↦ a | inr a ↦ absurd (let q : ⊥ = omega arith in q) ]) h e
@@ -38,17 +43,23 @@ module _ (ss : List Station) where
 
   -- by whether the station is nearer
   nearer_at : (i d : ℕ) (best : Option Nearest) → IsNearest i best → is_finished ss i ≡ false → distance_at ss i ≡ Some d → (t : Bool)
-      → ltb d (to_beat best) ≡ t → IsNearest (suc i) (cond t (Some (record { station = i; distance = d })) best)
-  nearer_at i d best k e f true g =
-      let b = ltb-true _ _ g in
+      → is_shorter d (distance_of best) ≡ t → IsNearest (suc i) (cond t (Some (record { station = i; distance = d })) best)
+  nearer_at i d None k e f true g =
       record {
         is = record { inside = omega arith; unfinished = e; reached = f };
-        low = low_more i d (λ j x l h r. omega (arith, b, k.low j x l h r)) (λ x h r. let q : d ≡ x = cc in omega arith);
+        low = low_more (λ x. d ≤ x) i (λ j x l h r. absurd (k.low j x l h r)) (λ x h r. let q : d ≡ x = cc in omega arith);
       }
-  nearer_at i d best k e f false g =
+  nearer_at i d None k e f false g = absurd (both_ways true g refl)
+  nearer_at i d (Some n) k e f true g =
+      let b = ltb-true d n.distance g in
       record {
-        is = found_more i best k.is;
-        low = low_more i (to_beat best) k.low (λ x h r. let q : d ≡ x = cc in omega (arith, ltb-false _ _ g));
+        is = record { inside = omega arith; unfinished = e; reached = f };
+        low = low_more (λ x. d ≤ x) i (λ j x l h r. omega (arith, b, k.low j x l h r)) (λ x h r. let q : d ≡ x = cc in omega arith);
+      }
+  nearer_at i d (Some n) k e f false g =
+      record {
+        is = found_more i (Some n) k.is;
+        low = low_more (λ x. n.distance ≤ x) i k.low (λ x h r. let q : d ≡ x = cc in omega (arith, ltb-false d n.distance g));
       }
 
   -- by the station's distance
@@ -56,14 +67,14 @@ module _ (ss : List Station) where
   step_at i best k e None f =
       record {
         is = found_more i best k.is;
-        low = low_more i (to_beat best) k.low (λ x h r. let z : ◌≡◌ {A = ℕ} 0 1 = cc in omega arith);
+        low = low_more (λ x. Beats x best) i k.low (λ x h r. let z : ◌≡◌ {A = ℕ} 0 1 = cc in absurd (let q : ⊥ = omega arith in q));
       }
-  step_at i best k e (Some d) f = nearer_at i d best k e f (ltb d (to_beat best)) refl
+  step_at i best k e (Some d) f = nearer_at i d best k e f (is_shorter d (distance_of best)) refl
 
   -- by whether it is finished
   step : (i : ℕ) (best : Option Nearest) → IsNearest i best → (b : Bool) → is_finished ss i ≡ b → IsNearest (suc i) (cond b best (nearer (distance_at ss i) i best))
   step i best k true e =
-      record { is = found_more i best k.is; low = low_more i (to_beat best) k.low (λ x h r. absurd (both_ways (is_finished ss i) h e)) }
+      record { is = found_more i best k.is; low = low_more (λ x. Beats x best) i k.low (λ x h r. absurd (both_ways (is_finished ss i) h e)) }
   step i best k false e = step_at i best k e (distance_at ss i) refl
 
   below : (i : ℕ) → IsNearest i (nearest_below ss i)

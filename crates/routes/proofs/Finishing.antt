@@ -142,7 +142,7 @@ module _ (legs : List LegRow) (a : ℕ) where
         no_route s d w =
             elim (reaches w) [
               | inl f ↦ clash (is_finished ss b) f.0 unfinished
-              | inr f ↦ absurd (let q : ⊥ = omega (arith, s.low f.0 (far ss f.0) f.1 f.2 (reached_at (distance_at ss f.0) f.3), f.3) in q)
+              | inr f ↦ s.low f.0 (far ss f.0) f.1 f.2 (reached_at (distance_at ss f.0) f.3)
             ]
 
         module _ (n : Nearest) (s : IsNearest ss 16 (Some n)) where

@@ -46,15 +46,14 @@ relaxed u leg ss = relaxed_from (station_at ss u).distance u leg ss
 abbrev pub marked : ℕ → List Station → List Station
 marked u ss = slice_set ss u (record { distance = (station_at ss u).distance; finished = true })
 
--- the distance that a station must be below to be nearer
-abbrev pub to_beat : Option Nearest → ℕ
-to_beat None = 4294967295
-to_beat (Some n) = n.distance
+abbrev pub distance_of : Option Nearest → Option ℕ
+distance_of None = None
+distance_of (Some n) = Some n.distance
 
 -- the nearer of the best and station i, if that is reached
 abbrev pub nearer : Option ℕ → ℕ → Option Nearest → Option Nearest
 nearer None i best = best
-nearer (Some d) i best = cond (nat_lt d (to_beat best)) (Some (record { station = i; distance = d })) best
+nearer (Some d) i best = cond (is_shorter d (distance_of best)) (Some (record { station = i; distance = d })) best
 
 -- the same, unless the station is finished
 abbrev pub with_station : Station → ℕ → Option Nearest → Option Nearest

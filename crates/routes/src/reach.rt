@@ -46,7 +46,7 @@ impl Station {
         let Some(distance) = self.distance else {
             return best;
         };
-        if !self.finished && distance < best.map_or(u32::MAX, |best| best.distance) {
+        if !self.finished && best.is_none_or(|best| distance < best.distance) {
             Some(Nearest {
                 station: number,
                 distance,
