@@ -1,11 +1,11 @@
 -- What one leg, and a list of legs, does to the distances.
-use Rattle.std.proofs.Common.{◌≡◌, ℕ, ◌+◌, ◌<◌, ◌≤◌, min, Bool, true, false, cond, ◌&&◌, ◌⊎◌, List, [], ◌∷◌, length, get_or, set, Some, None, Option, sym, refl, ap, ◌∙◌, subst, inl, inr, arith, length-set, get_or-set_other, get_or-set_same}
+use Rattle.std.proofs.Common.{◌≡◌, ℕ, ◌+◌, ◌<◌, ◌≤◌, min, Bool, true, false, cond, ◌⊎◌, List, [], ◌∷◌, length, get_or, set, Some, None, Option, sym, refl, ap, ◌∙◌, subst, inl, inr, arith, length-set, get_or-set_other, get_or-set_same}
 use Rattle.std.proofs.lemmas.Bool.{ltb-true, ltb-false, cases_eq}
 use Rattle.survey.specs.declared.leg.LegRow.{LegRow}
 use Rattle.survey.specs.Legs.{leads}
 use Rattle.survey.proofs.Ranges.{InRange, leads_to_end}
 use Rattle.routes.specs.declared.reach.Station.{Station}
-use Rattle.routes.specs.Reaches.{unknown, is_shorter, improved, relaxed_by, relaxed_from, relaxed}
+use Rattle.routes.specs.Reaches.{unknown, is_shorter, improved, improved_by, relaxed_by, relaxed_from, relaxed}
 use Rattle.routes.specs.Routes.{Among}
 use Rattle.routes.proofs.Flags.{is_finished, distance_at, clash}
 
@@ -98,18 +98,19 @@ module _ (K : ℕ → ℕ → Type 0) (v d : ℕ) (r : List Station) (in_List : 
             ];
       }
 
-  -- by whether the way is found, and whether it is shorter
-  noted_at : (found short : Bool) → (found ≡ true → K v d) → is_shorter d (distance_at r v) ≡ short → Noted found (cond (found && short) written r)
-  noted_at false t k e = record { gains = gains_none r; low = λ f. clash false f refl }
-  noted_at true false k e = record { gains = gains_none r; low = λ f. no_shorter d (distance_at r v) e }
-  noted_at true true k e =
+  -- by whether the way is shorter
+  noted_at : (short : Bool) → K v d → is_shorter d (distance_at r v) ≡ short → Noted true (cond short written r)
+  noted_at false k e = record { gains = gains_none r; low = λ f. no_shorter d (distance_at r v) e }
+  noted_at true k e =
       record {
-        gains = written_gains (k refl) (shorter d (distance_at r v) small e);
+        gains = written_gains k (shorter d (distance_at r v) small e);
         low = λ f. omega (arith, ap (λ (s : Station). or_beyond s.distance) (written_here v refl));
       }
 
-  noted : (found : Bool) → (found ≡ true → K v d) → Noted found (improved found v d r)
-  noted found k = noted_at found (is_shorter d (distance_at r v)) k refl
+  -- by whether it is found
+  noted : (found : Bool) → (found ≡ true → K v d) → Noted found (cond found (improved v d r) r)
+  noted false k = record { gains = gains_none r; low = λ f. clash false f refl }
+  noted true k = noted_at (is_shorter d (distance_at r v)) (k refl) refl
 
 -- what is known of the stations once the legs, in their order, were taken into account
 abbrev pub relaxed_all : ℕ → List LegRow → List Station → List Station
@@ -137,7 +138,7 @@ module _ (legs : List LegRow) (u away : ℕ) where
         let k = ranges leg i in
         let d = away + leg.length in
         let forth = noted Via leg.to d r (omega (arith, k.to_low)) (omega (arith, k.short)) (leads leg u leg.to) (λ e. (leg, i, e, refl)) in
-        let s = improved (leads leg u leg.to) leg.to d r in
+        let s = improved_by leg u leg.to d r in
         let back = noted Via leg.from d s (omega (arith, forth.gains.size, k.from_low)) (omega (arith, k.short)) (leads leg u leg.from) (λ e. (leg, i, e, refl)) in
         let t = relaxed_by u d leg r in
         let low : (v : ℕ) → leads leg u v ≡ true → far t v ≤ d =

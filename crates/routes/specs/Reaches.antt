@@ -1,5 +1,5 @@
 -- What a search knows of the stations: one leg taken into account, and the nearest unfinished station.
-use Rattle.std.specs.Prelude.{ℕ, zero, suc, ◌+◌, ◌<◌, min, Bool, true, false, cond, ◌&&◌, List, Some, None, Option, nat_lt, replicate, slice_index_or, slice_set}
+use Rattle.std.specs.Prelude.{ℕ, zero, suc, ◌+◌, ◌<◌, min, Bool, true, false, cond, List, Some, None, Option, nat_lt, replicate, slice_index_or, slice_set}
 use Rattle.survey.specs.declared.leg.LegRow.{LegRow}
 use Rattle.survey.specs.Legs.{leads}
 use Rattle.routes.specs.declared.reach.Nearest.{Nearest}
@@ -24,14 +24,18 @@ abbrev pub is_shorter : ℕ → Option ℕ → Bool
 is_shorter d None = true
 is_shorter d (Some e) = nat_lt d e
 
--- the stations, where a route of length d to station v may have been found
-abbrev pub improved : Bool → ℕ → ℕ → List Station → List Station
-improved found v d ss =
-    cond (found && is_shorter d (station_at ss v).distance) (slice_set ss v (record { distance = Some d; finished = (station_at ss v).finished })) ss
+-- the stations, where a route of length d to station v was found
+abbrev pub improved : ℕ → ℕ → List Station → List Station
+improved v d ss =
+    cond (is_shorter d (station_at ss v).distance) (slice_set ss v (record { distance = Some d; finished = (station_at ss v).finished })) ss
+
+-- the same, if the leg leads to it from station u
+abbrev pub improved_by : LegRow → ℕ → ℕ → ℕ → List Station → List Station
+improved_by leg u v d ss = cond (leads leg u v) (improved v d ss) ss
 
 -- both ends of a leg, which is walked from station u to a length of d in all
 abbrev pub relaxed_by : ℕ → ℕ → LegRow → List Station → List Station
-relaxed_by u d leg ss = improved (leads leg u leg.from) leg.from d (improved (leads leg u leg.to) leg.to d ss)
+relaxed_by u d leg ss = improved_by leg u leg.from d (improved_by leg u leg.to d ss)
 
 -- a leg from station u, which is reached at the distance, if at any
 abbrev pub relaxed_from : Option ℕ → ℕ → LegRow → List Station → List Station

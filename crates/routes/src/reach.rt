@@ -89,13 +89,13 @@ impl Reach {
             .unwrap_or(Station::unknown())
     }
 
-    // Notes a route of length `distance` to a station, if one was `found` and it is shorter.
-    fn improve(&mut self, found: bool, station: u8, distance: u32)
+    // Notes a route of length `distance` to a station, if it is shorter.
+    fn improve(&mut self, station: u8, distance: u32)
         requires { station ≤ 15 }
-        ensures { self.new.stations ≡ improved found station distance self.old.stations }
+        ensures { self.new.stations ≡ improved station distance self.old.stations }
     {
         let known = &mut self.stations[station as usize];
-        if found && known.distance.is_none_or(|least| distance < least) {
+        if known.distance.is_none_or(|least| distance < least) {
             known.distance = Some(distance);
         }
     }
@@ -108,8 +108,12 @@ impl Reach {
             return;
         };
         let along = distance.saturating_add(leg.length());
-        self.improve(leg.leads(station, leg.to()), leg.to(), along);
-        self.improve(leg.leads(station, leg.from()), leg.from(), along);
+        if leg.leads(station, leg.to()) {
+            self.improve(leg.to(), along);
+        }
+        if leg.leads(station, leg.from()) {
+            self.improve(leg.from(), along);
+        }
     }
 
     // Marks a station as finished.
