@@ -1,8 +1,8 @@
 // Times a proved search of a book alone against the same search in plain Rust, on the same books, in one run.
 //
-// The proved search is the route job done turn by turn: each turn takes a state, asks what it reads, reads a
-// line of the book and makes the next state. The plain one is such a job too, with its state changed in place.
-// Beside them stands a search with plain loops, which no one could stop between two turns.
+// The proved search is the route job done turn by turn: each turn looks what the state asks for, reads a line of
+// the book and changes the state in place. The plain one is such a job too. Beside them stands a search with plain
+// loops, which no one could stop between two turns.
 use crate::Dice;
 use std::hint::black_box;
 use std::time::Instant;

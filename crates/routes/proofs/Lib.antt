@@ -1,5 +1,4 @@
 pub mod Choosing
-pub mod Turns
 pub mod Legs
 pub mod Flags
 pub mod Relaxing

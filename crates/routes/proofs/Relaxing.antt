@@ -1,79 +1,119 @@
 -- What one leg, and a list of legs, does to the distances.
-use Rattle.std.proofs.Common.{◌≡◌, ℕ, ◌+◌, ◌<◌, ◌≤◌, min, Bool, true, false, cond, ◌&&◌, ltb, ◌⊎◌, List, [], ◌∷◌, length, get_or, set, sym, refl, ap, ◌∙◌, subst, inl, inr, arith, length-set, get_or-set_other, get_or-set_same}
-use Rattle.std.proofs.lemmas.Bool.{ltb-true, ltb-false, lt-ltb, cases_eq, cond-true}
+use Rattle.std.proofs.Common.{◌≡◌, ℕ, ◌+◌, ◌<◌, ◌≤◌, min, Bool, true, false, cond, ◌⊎◌, List, [], ◌∷◌, length, get_or, set, Some, None, Option, sym, refl, ap, ◌∙◌, subst, inl, inr, arith, length-set, get_or-set_other, get_or-set_same}
+use Rattle.std.proofs.lemmas.Bool.{ltb-true, ltb-false, cases_eq}
 use Rattle.survey.specs.declared.leg.LegRow.{LegRow}
 use Rattle.survey.specs.Legs.{leads}
 use Rattle.survey.proofs.Ranges.{InRange, leads_to_end}
-use Rattle.routes.specs.declared.reach.Reach.{Reach}
-use Rattle.routes.specs.Reaches.{unreached, distance_to, improved, relaxed_by, relaxed}
+use Rattle.routes.specs.declared.reach.Station.{Station}
+use Rattle.routes.specs.Reaches.{unknown, is_shorter, improved, improved_by, relaxed_by, relaxed_from, relaxed}
 use Rattle.routes.specs.Routes.{Among}
-use Rattle.routes.proofs.Flags.{clash}
+use Rattle.routes.proofs.Flags.{is_finished, distance_at, clash}
 
-abbrev pub far : Reach → ℕ → ℕ
-far r x = get_or r.distances x 0
+-- more than any route that visits no station twice
+abbrev pub beyond : ℕ
+beyond = 4294967295
 
--- each station is as it was, or has become nearer by a way of which K holds
-pub record Gains (K : ℕ → ℕ → Type 0) (r s : Reach) : Type 0 where
-  pub size : length s.distances ≡ length r.distances
-  pub each : (x : ℕ) → (far s x ≡ far r x) ⊎ (K x (far s x) × (far s x < far r x))
+abbrev pub or_beyond : Option ℕ → ℕ
+or_beyond None = beyond
+or_beyond (Some d) = d
 
-pub no_farther : {K : ℕ → ℕ → Type 0} {r s : Reach} → Gains K r s → (x : ℕ) → far s x ≤ far r x
-no_farther g x = elim (g.each x) [ inl e ↦ omega (arith, e) | inr k ↦ omega (arith, k.1) ]
+-- how far a station is; one that is not reached is beyond the others
+abbrev pub far : List Station → ℕ → ℕ
+far ss x = or_beyond (distance_at ss x)
 
-gains_none : {K : ℕ → ℕ → Type 0} (r : Reach) → Gains K r r
-gains_none r = record { size = refl; each = λ x. inl refl }
+pub reached_at : (o : Option ℕ) → or_beyond o < beyond → o ≡ Some (or_beyond o)
+reached_at None h = absurd (let q : ⊥ = omega arith in q)
+reached_at (Some d) h = refl
 
-gains_both : {K : ℕ → ℕ → Type 0} {r s t : Reach} → Gains K r s → Gains K s t → Gains K r t
+shorter : (d : ℕ) (o : Option ℕ) → d < beyond → is_shorter d o ≡ true → d < or_beyond o
+shorter d None h e = h
+shorter d (Some l) h e = ltb-true _ _ e
+
+no_shorter : (d : ℕ) (o : Option ℕ) → is_shorter d o ≡ false → or_beyond o ≤ d
+no_shorter d None e = clash true refl e
+no_shorter d (Some l) e = ltb-false _ _ e
+
+-- each station is as it was, or has become nearer by a way of which K holds; the marks stay
+pub record Gains (K : ℕ → ℕ → Type 0) (r s : List Station) : Type 0 where
+  pub size : length s ≡ length r
+  pub marks : (x : ℕ) → is_finished s x ≡ is_finished r x
+  pub each : (x : ℕ) → (distance_at s x ≡ distance_at r x) ⊎ ((d : ℕ) × (distance_at s x ≡ Some d) × K x d × (d < far r x))
+
+pub no_farther : {K : ℕ → ℕ → Type 0} {r s : List Station} → Gains K r s → (x : ℕ) → far s x ≤ far r x
+no_farther g x = elim (g.each x) [ inl e ↦ omega (arith, ap or_beyond e) | inr k ↦ omega (arith, ap or_beyond k.1, k.3) ]
+
+gains_none : {K : ℕ → ℕ → Type 0} (r : List Station) → Gains K r r
+gains_none r = record { size = refl; marks = λ x. refl; each = λ x. inl refl }
+
+gains_both : {K : ℕ → ℕ → Type 0} {r s t : List Station} → Gains K r s → Gains K s t → Gains K r t
 gains_both {K} {r} {s} {t} g h =
     record {
       size = h.size ∙ g.size;
+      marks = λ x. h.marks x ∙ g.marks x;
       each = λ x.
           elim (h.each x) [
             | inl e ↦
                 elim (g.each x) [
                   | inl f ↦ inl (e ∙ f)
-                  | inr k ↦ inr (subst (K x) (sym e) k.0, omega (arith, e, k.1))
+                  | inr k ↦ inr (k.0, e ∙ k.1, k.2, k.3)
                 ]
-            | inr k ↦ inr (k.0, omega (arith, k.1, no_farther g x))
+            | inr k ↦ inr (k.0, k.1, k.2, omega (arith, k.3, no_farther g x))
           ];
     }
 
 -- a way of length d to station v, where K holds of it once it is found
-module _ (K : ℕ → ℕ → Type 0) (v d : ℕ) (r : Reach) (in_List : v < length r.distances) where
-  pub record Noted (found : Bool) (s : Reach) : Type 0 where
+module _ (K : ℕ → ℕ → Type 0) (v d : ℕ) (r : List Station) (in_List : v < length r) (small : d < beyond) where
+  pub record Noted (found : Bool) (s : List Station) : Type 0 where
     pub gains : Gains K r s
     pub low : found ≡ true → far s v ≤ d
 
-  abbrev written : Reach
-  written = record { distances = set r.distances v d }
+  abbrev noted_station : Station
+  noted_station = record { distance = Some d; finished = is_finished r v }
+
+  abbrev written : List Station
+  written = set r v noted_station
+
+  written_here : (x : ℕ) → x ≡ v → get_or written x unknown ≡ noted_station
+  written_here x q = ap (λ (y : ℕ). get_or written y unknown) q ∙ get_or-set_same r v noted_station unknown in_List
+
+  written_elsewhere : (x : ℕ) → (x ≡ v → ⊥) → get_or written x unknown ≡ get_or r x unknown
+  written_elsewhere x n = get_or-set_other r v x noted_station unknown n
 
   written_gains : K v d → d < far r v → Gains K r written
   written_gains k l =
       record {
-        size = length-set r.distances v d;
+        size = length-set r v noted_station;
+        marks = λ x.
+            elim (cases_eq x v) [
+              | inl q ↦ ap (λ (s : Station). s.finished) (written_here x q) ∙ ap (λ (y : ℕ). is_finished r y) (sym q)
+              | inr n ↦ ap (λ (s : Station). s.finished) (written_elsewhere x n)
+            ];
         each = λ x.
             elim (cases_eq x v) [
               | inl q ↦
-                  let s : far written x ≡ d = ap (λ (y : ℕ). far written y) q ∙ get_or-set_same r.distances v d 0 in_List in
                   let m : d < far r x = subst (λ (y : ℕ). d < far r y) (sym q) l in
                   let w : K x d = subst (λ (y : ℕ). K y d) (sym q) k in
-                  inr (subst (K x) (sym s) w, omega (arith, s, m))
-              | inr n ↦ inl (get_or-set_other r.distances v x d 0 n)
+                  inr (d, ap (λ (s : Station). s.distance) (written_here x q), w, m)
+              | inr n ↦ inl (ap (λ (s : Station). s.distance) (written_elsewhere x n))
             ];
       }
 
-  -- by whether the way is found, and whether it is shorter
-  noted_at : (found shorter : Bool) → (found ≡ true → K v d) → ltb d (far r v) ≡ shorter → Noted found (cond (found && shorter) written r)
-  noted_at false t k e = record { gains = gains_none r; low = λ f. clash false f refl }
-  noted_at true false k e = record { gains = gains_none r; low = λ f. ltb-false _ _ e }
-  noted_at true true k e =
-      record { gains = written_gains (k refl) (ltb-true _ _ e); low = λ f. omega (arith, get_or-set_same r.distances v d 0 in_List) }
+  -- by whether the way is shorter
+  noted_at : (short : Bool) → K v d → is_shorter d (distance_at r v) ≡ short → Noted true (cond short written r)
+  noted_at false k e = record { gains = gains_none r; low = λ f. no_shorter d (distance_at r v) e }
+  noted_at true k e =
+      record {
+        gains = written_gains k (shorter d (distance_at r v) small e);
+        low = λ f. omega (arith, ap (λ (s : Station). or_beyond s.distance) (written_here v refl));
+      }
 
-  noted : (found : Bool) → (found ≡ true → K v d) → Noted found (improved found v d r)
-  noted found k = noted_at found (ltb d (far r v)) k refl
+  -- by whether it is found
+  noted : (found : Bool) → (found ≡ true → K v d) → Noted found (cond found (improved v d r) r)
+  noted false k = record { gains = gains_none r; low = λ f. clash false f refl }
+  noted true k = noted_at (is_shorter d (distance_at r v)) (k refl) refl
 
--- what is reached once the legs, in their order, were taken into account
-abbrev pub relaxed_all : ℕ → List LegRow → Reach → Reach
+-- what is known of the stations once the legs, in their order, were taken into account
+abbrev pub relaxed_all : ℕ → List LegRow → List Station → List Station
 relaxed_all u [] r = r
 relaxed_all u (l ∷ ls) r = relaxed_all u ls (relaxed u l r)
 
@@ -84,22 +124,22 @@ module _ (legs : List LegRow) (u away : ℕ) where
   Via x e = (leg : LegRow) × Among leg legs × (leads leg u x ≡ true) × (e ≡ away + leg.length)
 
   -- the legs ls are taken into account
-  pub record Passed (ls : List LegRow) (r s : Reach) : Type 0 where
+  pub record Passed (ls : List LegRow) (r s : List Station) : Type 0 where
     pub gains : Gains Via r s
     pub covers : (leg : LegRow) → Among leg ls → (v : ℕ) → leads leg u v ≡ true → far s v ≤ away + leg.length
 
   -- a station that is at most as far as u keeps its distance
-  pub stays : {r s : Reach} → Gains Via r s → (x : ℕ) → far r x ≤ away → far s x ≡ far r x
-  stays g x h = elim (g.each x) [ inl e ↦ e | inr k ↦ absurd (let q : ⊥ = omega (arith, k.0.3, k.1) in q) ]
+  pub stays : {r s : List Station} → Gains Via r s → (x : ℕ) → far r x ≤ away → distance_at s x ≡ distance_at r x
+  stays g x h = elim (g.each x) [ inl e ↦ e | inr k ↦ absurd (let q : ⊥ = omega (arith, k.2.3, k.3) in q) ]
 
-  module _ (ranges : (leg : LegRow) → Among leg legs → InRange leg) (inside : u < 16) (near : away + 10000000 < unreached) where
-    relax_by : (leg : LegRow) (r : Reach) → Among leg legs → length r.distances ≡ 16 → Passed (leg ∷ []) r (relaxed_by u (away + leg.length) leg r)
+  module _ (ranges : (leg : LegRow) → Among leg legs → InRange leg) (near : away + 10000000 < beyond) where
+    relax_by : (leg : LegRow) (r : List Station) → Among leg legs → length r ≡ 16 → Passed (leg ∷ []) r (relaxed_by u (away + leg.length) leg r)
     relax_by leg r i size =
         let k = ranges leg i in
         let d = away + leg.length in
-        let forth = noted Via leg.to d r (omega (arith, k.to_low)) (leads leg u leg.to) (λ e. (leg, i, e, refl)) in
-        let s = improved (leads leg u leg.to) leg.to d r in
-        let back = noted Via leg.from d s (omega (arith, forth.gains.size, k.from_low)) (leads leg u leg.from) (λ e. (leg, i, e, refl)) in
+        let forth = noted Via leg.to d r (omega (arith, k.to_low)) (omega (arith, k.short)) (leads leg u leg.to) (λ e. (leg, i, e, refl)) in
+        let s = improved_by leg u leg.to d r in
+        let back = noted Via leg.from d s (omega (arith, forth.gains.size, k.from_low)) (omega (arith, k.short)) (leads leg u leg.from) (λ e. (leg, i, e, refl)) in
         let t = relaxed_by u d leg r in
         let low : (v : ℕ) → leads leg u v ≡ true → far t v ≤ d =
         λ v e.
@@ -118,18 +158,19 @@ module _ (legs : List LegRow) (u away : ℕ) where
               ];
         }
 
-    relax_one : (leg : LegRow) (r : Reach) → Among leg legs → length r.distances ≡ 16 → far r u ≡ away → Passed (leg ∷ []) r (relaxed u leg r)
+    relax_one : (leg : LegRow) (r : List Station) → Among leg legs → length r ≡ 16 → distance_at r u ≡ Some away → Passed (leg ∷ []) r (relaxed u leg r)
     relax_one leg r i size e =
-        let f : distance_to r.distances u ≡ away = cond-true (ltb u 16) (far r u) unreached (lt-ltb u 16 inside) ∙ e in
-        let m : min (distance_to r.distances u + leg.length) unreached ≡ away + leg.length = omega (arith, f, (ranges leg i).short) in
-        subst (λ (d : ℕ). Passed (leg ∷ []) r (relaxed_by u d leg r)) (sym m) (relax_by leg r i size)
+        let m : min (away + leg.length) 4294967295 ≡ away + leg.length = omega (arith, (ranges leg i).short) in
+        let f : relaxed u leg r ≡ relaxed_by u (away + leg.length) leg r =
+        ap (λ (o : Option ℕ). relaxed_from o u leg r) e ∙ ap (λ (d : ℕ). relaxed_by u d leg r) m in
+        subst (Passed (leg ∷ []) r) (sym f) (relax_by leg r i size)
 
-    pub pass : (ls : List LegRow) (r : Reach) → ((leg : LegRow) → Among leg ls → Among leg legs) → length r.distances ≡ 16 → far r u ≡ away
+    pub pass : (ls : List LegRow) (r : List Station) → ((leg : LegRow) → Among leg ls → Among leg legs) → length r ≡ 16 → distance_at r u ≡ Some away
         → Passed ls r (relaxed_all u ls r)
     pass [] r within size e = record { gains = gains_none r; covers = λ leg i. absurd i }
     pass (l ∷ ls) r within size e =
         let one = relax_one l r (within l (inl refl)) size e in
-        let same = stays one.gains u (omega arith) in
+        let same = stays one.gains u (omega (arith, ap or_beyond e)) in
         let rest = pass ls (relaxed u l r) (λ leg i. within leg (inr i)) (one.gains.size ∙ size) (same ∙ e) in
         record {
           gains = gains_both one.gains rest.gains;

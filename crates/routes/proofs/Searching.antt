@@ -1,10 +1,13 @@
 -- A search alone ends in time, and its answer is right.
-use Rattle.std.proofs.Common.{◌≡◌, ℕ, zero, suc, ◌+◌, ◌-◌, ◌*◌, ◌%◌, ◌<◌, ◌≤◌, Bool, true, false, ◌||◌, eqb, ltb, List, [], length, get_or, take, set, Some, None, Option, sym, refl, ap, ◌∙◌, subst, inl, inr, mod-eq_of_lt, suc-mul, arith}
+use Rattle.std.proofs.Common.{◌≡◌, ℕ, zero, suc, ◌+◌, ◌-◌, ◌*◌, ◌%◌, ◌<◌, ◌≤◌, Bool, true, false, ◌||◌, eqb, ltb, List, [], length, get_or, take, set, Some, None, Ok, Err, Option, Result, sym, refl, ap, ◌∙◌, subst, inl, inr, mod-eq_of_lt, suc-mul, arith}
 use native.Mathlib.Nat.{add-mod_left}
 use Rattle.std.proofs.lemmas.Bool.{ltb-false, cond-true, cond-false, cases_eq, cases_lt, cases_Bool, eq-eqb, ne_eqb, or_parts}
 use Rattle.survey.specs.declared.leg.LegRow.{LegRow}
 use Rattle.survey.proofs.Ranges.{InRange}
+use Rattle.calls.specs.declared.ending.Ending.{Ending}
 use Rattle.calls.specs.declared.order.Order.{Order}
+use Rattle.calls.specs.declared.order.BadOrder.{BadOrder}
+use Rattle.calls.specs.Endings.{bad_ending}
 use Rattle.jobs.specs.declared.request.Request.{Request}
 use Rattle.jobs.specs.declared.request.Request.TheVariants.{Read, End}
 use Rattle.jobs.specs.Alone.{Alone, begun, turns, Ends, applied}
@@ -13,17 +16,17 @@ use Rattle.routes.specs.declared.search.Search.{Search}
 use Rattle.routes.specs.declared.search.Next.{Next}
 use Rattle.routes.specs.declared.search.Next.TheVariants.{Line, Ended}
 use Rattle.routes.specs.declared.reach.Nearest.{Nearest}
-use Rattle.routes.specs.declared.reach.Reach.{Reach}
-use Rattle.routes.specs.Reaches.{nearest_of}
-use Rattle.routes.specs.Searches.{route_family, bad_order, request_of, chosen, begun_at, first_next, first_search, refused}
+use Rattle.routes.specs.declared.reach.Station.{Station}
+use Rattle.routes.specs.Reaches.{reached_first, marked, nearest_of}
+use Rattle.routes.specs.Searches.{route_family, bad_order, ending_of, request_of, chosen, begun_at, first_next, first_search, refused}
 use Rattle.routes.specs.Routes.{Among, Route, here, onward, Least, Right, legs_of, Searched, SearchesAreRight, EndedSearchesAreRight}
 use Rattle.routes.specs.Answers.{still, length_found, Answers}
 use Rattle.routes.proofs.Legs.{all_in_range}
 use Rattle.routes.proofs.Relaxing.{relaxed_all}
 use Rattle.routes.proofs.Choosing.{IsNearest, nearest_is}
-use Rattle.routes.proofs.Flags.{left_set}
-use Rattle.routes.proofs.Finishing.{Before, After, finish, no_route, least_way, goes_on, still_unfinished, begins, first_unfinished, first_reach, first_finished}
-use Rattle.routes.proofs.Turns.{turns_add, ended_since, ends_alike}
+use Rattle.routes.proofs.Flags.{is_finished, distance_at, left_set}
+use Rattle.routes.proofs.Finishing.{Before, After, finish, finish_marks, no_route, least_way, goes_on, still_unfinished, begins, first_unfinished}
+use Rattle.jobs.proofs.Turns.{turns_add, ended_since, ends_alike}
 use Rattle.routes.proofs.Passing.{at_line, a_pass, lines_read, waits}
 
 abbrev asks : Alone LegRow Search → Request LegRow
@@ -41,15 +44,14 @@ module _ (rows : List LegRow) (a b c : ℕ) where
     pub count : ℕ
     pub soon : count ≤ within
     pub in_order : (k : ℕ) → k < count → asks (after k s) ≡ Read (k % c)
-    pub code : ℕ
-    pub number : ℕ
-    pub ends : asks (after count s) ≡ End code number
+    pub ending : Ending
+    pub ends : asks (after count s) ≡ End ending
     pub unwritten : (after count s).writes ≡ []
-    pub right : Right legs a b code number
+    pub right : Right legs a b ending
 
-  at_once : (within code number : ℕ) (s : Search) → s.next ≡ Ended code number → Right legs a b code number → Outcome within (still s)
-  at_once within code number s e r =
-      record { count = 0; soon = omega arith; in_order = λ k h. absurd (let q : ⊥ = omega arith in q); code = code; number = number; ends = cc; unwritten = refl; right = r }
+  at_once : (within : ℕ) (found : Result (Option ℕ) BadOrder) (s : Search) → s.next ≡ Ended found → Right legs a b (ending_of found) → Outcome within (still s)
+  at_once within found s e r =
+      record { count = 0; soon = omega arith; in_order = λ k h. absurd (let q : ⊥ = omega arith in q); ending = ending_of found; ends = ap (λ (n : Next). request_of n) e; unwritten = refl; right = r }
 
   -- a pass, and then what follows
   later : (within : ℕ) (s t : Alone LegRow Search) → ((k : ℕ) → k < c → asks (after k s) ≡ Read k) → after c s ≡ t → Outcome within t → Outcome (within + c) s
@@ -66,8 +68,7 @@ module _ (rows : List LegRow) (a b c : ℕ) where
                   let f : c + i ≡ k = omega arith in
                   subst (λ (n : ℕ). asks (after n s) ≡ Read (n % c)) f (ap asks (then i) ∙ (o.in_order i (omega arith) ∙ ap Read (sym (add-mod_left c i))))
             ];
-        code = o.code;
-        number = o.number;
+        ending = o.ending;
         ends = ap asks (then o.count) ∙ o.ends;
         unwritten = ap (λ (x : Alone LegRow Search). x.writes) (then o.count) ∙ o.unwritten;
         right = o.right;
@@ -78,31 +79,32 @@ module _ (rows : List LegRow) (a b c : ℕ) where
     ranges = all_in_range (take c rows)
 
     -- after a pass: the search ends rightly, or goes on with one pass less to come
-    module _ {m limit : ℕ} {r : Reach} {fs : List Bool} (k : After legs a m limit r fs) (unfinished : get_or fs b false ≡ false)
-        (again : (u : ℕ) (gs : List Bool) → Before legs a m u r gs → get_or gs b false ≡ false → Outcome (m * c) (still (at_line b c u 0 r gs))) where
-      next_pass : (best : Option Nearest) → IsNearest r.distances fs 16 best → Outcome (m * c) (still (chosen b c r fs best))
-      next_pass None s = at_once (m * c) 1 0 _ refl (inr (refl, refl, no_route legs a ranges k b unfinished s))
+    module _ {m limit : ℕ} {ss : List Station} (k : After legs a m limit ss) (unfinished : is_finished ss b ≡ false)
+        (again : (u : ℕ) (ts : List Station) → Before legs a m u ts → is_finished ts b ≡ false → Outcome (m * c) (still (at_line b c u 0 ts))) where
+      next_pass : (best : Option Nearest) → IsNearest ss 16 best → Outcome (m * c) (still (chosen b c (record { stations = ss }) best))
+      next_pass None s = at_once (m * c) (Ok None) _ refl (inr (refl, refl, no_route legs a ranges k b unfinished s))
       next_pass (Some n) s =
           elim (cases_eq n.station b) [
             | inl q ↦
                 let g = cond-true (eqb n.station b) _ _ (eq-eqb n.station b q) in
                 subst (λ (x : Search). Outcome (m * c) (still x)) (sym g)
-                (at_once (m * c) 0 n.distance _ refl (inl (refl, least_way legs a ranges k b unfinished n s q)))
+                (at_once (m * c) (Ok (Some n.distance)) _ refl (inl (refl, least_way legs a ranges k b unfinished n s q)))
             | inr q ↦
                 let g = cond-false (eqb n.station b) _ _ (ne_eqb n.station b q) in
                 subst (λ (x : Search). Outcome (m * c) (still x)) (sym g)
-                (again n.station (set fs n.station true) (goes_on legs a ranges k b unfinished n s) (still_unfinished legs a ranges k b unfinished n s q))
+                (again n.station (marked n.station ss) (goes_on legs a ranges k b unfinished n s) (still_unfinished legs a ranges k b unfinished n s q))
           ]
 
     -- by the passes to come: while the target is not finished, a station is left
-    run : (m u : ℕ) (r : Reach) (fs : List Bool) → Before legs a m u r fs → get_or fs b false ≡ false → Outcome (m * c) (still (at_line b c u 0 r fs))
-    run zero u r fs p e = absurd (let q : ⊥ = omega (arith, left_set fs b (omega (arith, p.known.flags)) e, p.left) in q)
-    run (suc m) u r fs p e =
-        let s = relaxed_all u legs r in
-        let k = finish legs a ranges m u r fs p in
-        let o = next_pass k e (λ v gs q f. run m v s gs q f) (nearest_of s.distances fs) (nearest_is s.distances fs) in
-        let read : (j : ℕ) → j < c → asks (after j (still (at_line b c u 0 r fs))) ≡ Read j = λ j h. ap asks (lines_read rows b c u fs enough r j h).1 in
-        subst (λ (n : ℕ). Outcome n (still (at_line b c u 0 r fs))) (sym (suc-mul m c)) (later (m * c) _ _ read (a_pass rows b c u fs enough c r refl some-line) o)
+    run : (m u : ℕ) (ss : List Station) → Before legs a m u ss → is_finished ss b ≡ false → Outcome (m * c) (still (at_line b c u 0 ss))
+    run zero u ss p e = absurd (let q : ⊥ = omega (arith, left_set ss b (record { distance = distance_at ss b; finished = true }) refl (omega (arith, p.known.size)) e, p.left) in q)
+    run (suc m) u ss p e =
+        let passed = relaxed_all u legs ss in
+        let k = finish legs a ranges m u ss p in
+        let f : is_finished passed b ≡ false = finish_marks legs a ranges m u ss p b ∙ e in
+        let o = next_pass k f (λ v ts q g. run m v ts q g) (nearest_of passed) (nearest_is passed) in
+        let read : (j : ℕ) → j < c → asks (after j (still (at_line b c u 0 ss))) ≡ Read j = λ j h. ap asks (lines_read rows b c u enough ss j h).1 in
+        subst (λ (n : ℕ). Outcome n (still (at_line b c u 0 ss))) (sym (suc-mul m c)) (later (m * c) _ _ read (a_pass rows b c u enough c ss refl some-line) o)
 
 -- without legs a route stays where it is
 no_legs : {a v d : ℕ} → Route [] a v d → a ≡ v
@@ -111,12 +113,15 @@ no_legs (onward w leg i e) = absurd i
 
 -- the first state
 module _ (rows : List LegRow) (a b c : ℕ) where
+  abbrev begun_with : Next → Search
+  begun_with n = record { target = b; count = c; next = n; reach = record { stations = reached_first a } }
+
   abbrev first : Alone LegRow Search
-  first = still (begun_at a b c (first_next a b c))
+  first = still (begun_at a b c)
 
   from_itself : a ≡ b → Outcome rows a b c (15 * c) first
   from_itself q =
-      at_once rows a b c (15 * c) 0 0 (begun_at a b c (first_next a b c)) (cond-true (eqb a b) _ _ (eq-eqb a b q))
+      at_once rows a b c (15 * c) (Ok (Some 0)) (begun_at a b c) (cond-true (eqb a b) _ _ (eq-eqb a b q))
       (inl (refl, record { route = subst (λ (y : ℕ). Route (legs_of rows c) a y 0) q here; least = λ d w. omega arith }))
 
   -- where there is a line to read, the search begins with the first
@@ -125,7 +130,7 @@ module _ (rows : List LegRow) (a b c : ℕ) where
 
   without_lines : (a ≡ b → ⊥) → c ≡ 0 → Outcome rows a b c (15 * c) first
   without_lines n z =
-      at_once rows a b c (15 * c) 1 0 (begun_at a b c (first_next a b c)) (cond-false (eqb a b) _ _ (ne_eqb a b n) ∙ cond-true (eqb c 0) _ _ (eq-eqb c 0 z))
+      at_once rows a b c (15 * c) (Ok None) (begun_at a b c) (cond-false (eqb a b) _ _ (ne_eqb a b n) ∙ cond-true (eqb c 0) _ _ (eq-eqb c 0 z))
       (inr (refl, refl, λ d w. n (no_legs (subst (λ (y : ℕ). Route (legs_of rows y) a b d) z w))))
 
   from_first : a < 16 → b < 16 → c ≤ length rows → Outcome rows a b c (15 * c) first
@@ -137,27 +142,27 @@ module _ (rows : List LegRow) (a b c : ℕ) where
               | inl z ↦ without_lines n z
               | inr z ↦
                   let legs = legs_of rows c in
-                  subst (λ (x : Next). Outcome rows a b c (15 * c) (still (begun_at a b c x))) (sym (begins_reading n z))
-                  (run rows a b c target (omega arith) enough 15 a (first_reach legs a inside) (first_finished legs a inside) (begins legs a inside) (first_unfinished legs a inside b n))
+                  subst (λ (x : Next). Outcome rows a b c (15 * c) (still (begun_with x))) (sym (begins_reading n z))
+                  (run rows a b c target (omega arith) enough 15 a (reached_first a) (begins legs a inside) (first_unfinished legs a inside b n))
             ]
       ]
 
 module _ (o : Order) (rows : List LegRow) (good : bad_order o ≡ false) where
-  first_is : begun_at o.a o.b o.c (first_next o.a o.b o.c) ≡ first_search o
+  first_is : begun_at o.a o.b o.c ≡ first_search o
   first_is = sym (cond-false (bad_order o) _ _ good)
 
   searched : Outcome rows o.a o.b o.c (15 * o.c) (first rows o.a o.b o.c) → Searched o rows
   searched y =
       let x = subst (λ (s : Search). Outcome rows o.a o.b o.c (15 * o.c) (still s)) first_is y in
-      record { count = x.count; soon = x.soon; in_order = x.in_order; code = x.code; number = x.number; asks = x.ends; unwritten = x.unwritten; right = x.right }
+      record { count = x.count; soon = x.soon; in_order = x.in_order; ending = x.ending; asks = x.ends; unwritten = x.unwritten; right = x.right }
 
   -- a book that lacks a line is not searched to the end, unless there is nothing to search
-  never_ends : length rows < o.c → (o.a ≡ o.b → ⊥) → (k code number : ℕ) → asks (turns route_family rows k (begun route_family o)) ≡ End code number → ⊥
-  never_ends lacking n k code number e =
-      let f : first_search o ≡ begun_at o.a o.b o.c (Line o.a 0) = sym first_is ∙ ap (begun_at o.a o.b o.c) (begins_reading rows o.a o.b o.c n (omega arith)) in
-      let w = waits rows o.b o.c o.a _ lacking _ k in
+  never_ends : length rows < o.c → (o.a ≡ o.b → ⊥) → (k : ℕ) (ending : Ending) → asks (turns route_family rows k (begun route_family o)) ≡ End ending → ⊥
+  never_ends lacking n k ending e =
+      let f : first_search o ≡ begun_with rows o.a o.b o.c (Line o.a 0) = sym first_is ∙ ap (begun_with rows o.a o.b o.c) (begins_reading rows o.a o.b o.c n (omega arith)) in
+      let w = waits rows o.b o.c o.a lacking _ k in
       let g = ap (λ (s : Search). turns route_family rows k (still s)) f ∙ w.is in
-      let q : ◌≡◌ {A = Request LegRow} (Read w.line) (End code number) = sym (ap asks g) ∙ e in
+      let q : ◌≡◌ {A = Request LegRow} (Read w.line) (End ending) = sym (ap asks g) ∙ e in
       let z : ◌≡◌ {A = ℕ} 0 1 = cc in
       omega arith
 
@@ -170,58 +175,60 @@ searches_are_right o rows good enough =
     (from_first rows o.a o.b o.c (omega (arith, ltb-false 15 o.a q.0)) (omega (arith, ltb-false 15 o.b r.0)) enough)
 
 -- what a right answer says of the length that was found
-found_right : (legs : List LegRow) (a b code number : ℕ) (n : Next) → request_of n ≡ End code number → Right legs a b code number → Answers legs a b (length_found n)
-found_right legs a b code number (Line u l) e r = let z : ◌≡◌ {A = ℕ} 0 1 = cc in absurd (let q : ⊥ = omega arith in q)
-found_right legs a b code number (Ended x y) e r =
-    let f : x ≡ code = cc in
-    let g : y ≡ number = cc in
-    elim r [
-      | inl p ↦ subst (λ (k : ℕ). Answers legs a b (length_found (Ended k y))) (sym (f ∙ p.0)) (subst (Least legs a b) (sym g) p.1)
-      | inr p ↦ subst (λ (k : ℕ). Answers legs a b (length_found (Ended k y))) (sym (f ∙ p.0)) p.2
-    ]
+right_found : (legs : List LegRow) (a b : ℕ) (found : Result (Option ℕ) BadOrder) → Right legs a b (ending_of found) → Answers legs a b (length_found (Ended found))
+right_found legs a b (Ok (Some d)) (inl p) = p.1
+right_found legs a b (Ok (Some d)) (inr p) = absurd (let q : ⊥ = omega (arith, p.0) in q)
+right_found legs a b (Ok None) (inl p) = absurd (let q : ⊥ = omega (arith, p.0) in q)
+right_found legs a b (Ok None) (inr p) = p.2
+right_found legs a b (Err bad) (inl p) = absurd (let q : ⊥ = omega (arith, p.0) in q)
+right_found legs a b (Err bad) (inr p) = absurd (let q : ⊥ = omega (arith, p.0) in q)
+
+found_right : (legs : List LegRow) (a b : ℕ) (ending : Ending) (n : Next) → request_of n ≡ End ending → Right legs a b ending → Answers legs a b (length_found n)
+found_right legs a b ending (Line u l) e r = let z : ◌≡◌ {A = ℕ} 0 1 = cc in absurd (let q : ⊥ = omega arith in q)
+found_right legs a b ending (Ended found) e r =
+    let f : ending ≡ ending_of found = cc in
+    right_found legs a b found (subst (Right legs a b) f r)
 
 -- the state after 15 × c turns has the answer
-pub answer_is_right : (o : Order) (rows : List LegRow) → bad_order o ≡ false → o.c ≤ length rows → (last : Search)
-    → turns route_family rows (15 * o.c) (begun route_family o) ≡ still last → Answers (legs_of rows o.c) o.a o.b (length_found last.next)
-answer_is_right o rows good enough last e =
-    let x = searches_are_right o rows good enough in
-    let there = turns route_family rows x.count (begun route_family o) in
-    let same : turns route_family rows (15 * o.c) (begun route_family o) ≡ there =
-    ended_since route_family rows (begun route_family o) there x.count (15 * o.c) x.code x.number x.soon refl x.asks in
-    found_right (legs_of rows o.c) o.a o.b x.code x.number last.next (ap asks (sym e ∙ same) ∙ x.asks) x.right
+pub answer_is_right : (rows : List LegRow) (a b c : ℕ) → a < 16 → b < 16 → c ≤ length rows → (last : Search)
+    → turns route_family rows (15 * c) (still (begun_at a b c)) ≡ still last → Answers (legs_of rows c) a b (length_found last.next)
+answer_is_right rows a b c inside target enough last e =
+    let x = from_first rows a b c inside target enough in
+    let there = turns route_family rows x.count (still (begun_at a b c)) in
+    let same : turns route_family rows (15 * c) (still (begun_at a b c)) ≡ there =
+    ended_since route_family rows (still (begun_at a b c)) there x.count (15 * c) x.ending x.soon refl x.ends in
+    found_right (legs_of rows c) a b x.ending last.next (ap asks (sym e ∙ same) ∙ x.ends) x.right
 
 -- what a search answers is what it answers whenever it is looked at again
-alike : (o : Order) (rows : List LegRow) → Searched o rows → (code number : ℕ) (after : List LegRow) → Ends route_family o rows code number after
-    → Right (legs_of rows o.c) o.a o.b code number × (after ≡ rows)
-alike o rows x code number after e =
+alike : (o : Order) (rows : List LegRow) → Searched o rows → (ending : Ending) (after : List LegRow) → Ends route_family o rows ending after
+    → Right (legs_of rows o.c) o.a o.b ending × (after ≡ rows)
+alike o rows x ending after e =
     let same : turns route_family rows x.count (begun route_family o) ≡ turns route_family rows e.count (begun route_family o) =
-    ends_alike route_family rows (begun route_family o) x.count e.count x.code x.number code number x.asks e.asks in
-    let q : ◌≡◌ {A = Request LegRow} (End x.code x.number) (End code number) = sym x.asks ∙ (ap asks same ∙ e.asks) in
-    let c : x.code ≡ code = cc in
-    let n : x.number ≡ number = cc in
+    ends_alike route_family rows (begun route_family o) x.count e.count x.ending ending x.asks e.asks in
+    let q : ◌≡◌ {A = Request LegRow} (End x.ending) (End ending) = sym x.asks ∙ (ap asks same ∙ e.asks) in
+    let c : x.ending ≡ ending = cc in
     let w : (turns route_family rows e.count (begun route_family o)).writes ≡ [] = ap (λ (s : Alone LegRow Search). s.writes) (sym same) ∙ x.unwritten in (
-      subst (λ (y : ℕ). Right (legs_of rows o.c) o.a o.b y number) c (subst (Right (legs_of rows o.c) o.a o.b x.code) n x.right),
+      subst (Right (legs_of rows o.c) o.a o.b) c x.right,
       e.leaves ∙ ap (λ (ws : List (Written LegRow)). applied ws rows) w,
     )
 
 -- a bad order ends at once
-ends_refused : (o : Order) (rows : List LegRow) → bad_order o ≡ true → (code number : ℕ) (after : List LegRow) → Ends route_family o rows code number after
-    → (code ≡ 9) × (number ≡ 0) × (after ≡ rows)
-ends_refused o rows bad code number after e =
-    let f : begun route_family o ≡ still refused = ap still (cond-true (bad_order o) _ _ bad) in
-    let g : turns route_family rows e.count (begun route_family o) ≡ still refused =
-    ended_since route_family rows (begun route_family o) (still refused) 0 e.count 9 0 (omega arith) f refl in
-    let q : ◌≡◌ {A = Request LegRow} (End 9 0) (End code number) = sym (ap asks g) ∙ e.asks in
-    let c : code ≡ 9 = cc in
-    let n : number ≡ 0 = cc in
-    (c, n, e.leaves ∙ ap (λ (s : Alone LegRow Search). applied s.writes rows) g)
+ends_refused : (o : Order) (rows : List LegRow) → bad_order o ≡ true → (ending : Ending) (after : List LegRow) → Ends route_family o rows ending after
+    → (ending ≡ bad_ending) × (after ≡ rows)
+ends_refused o rows bad ending after e =
+    let f : begun route_family o ≡ still (refused (record {})) = ap still (cond-true (bad_order o) _ _ bad) in
+    let g : turns route_family rows e.count (begun route_family o) ≡ still (refused (record {})) =
+    ended_since route_family rows (begun route_family o) (still (refused (record {}))) 0 e.count bad_ending (omega arith) f refl in
+    let q : ◌≡◌ {A = Request LegRow} (End bad_ending) (End ending) = sym (ap asks g) ∙ e.asks in
+    let c : ending ≡ bad_ending = cc in
+    (c, e.leaves ∙ ap (λ (s : Alone LegRow Search). applied s.writes rows) g)
 
 pub ended_searches_are_right : EndedSearchesAreRight
-ended_searches_are_right o rows code number after e =
+ended_searches_are_right o rows ending after e =
     elim (cases_Bool (bad_order o)) [
       | inl bad ↦
-          let r = ends_refused o rows bad code number after e in
-          (inl (bad, r.0, r.1), r.2)
+          let r = ends_refused o rows bad ending after e in
+          (inl (bad, r.0), r.1)
       | inr good ↦
           let x : Searched o rows =
           elim (cases_lt (length rows) o.c) [
@@ -229,9 +236,9 @@ ended_searches_are_right o rows code number after e =
             | inl lacking ↦
                 elim (cases_eq o.a o.b) [
                   | inl q ↦ searched o rows good (from_itself rows o.a o.b o.c q)
-                  | inr n ↦ absurd (never_ends o rows good lacking n e.count code number e.asks)
+                  | inr n ↦ absurd (never_ends o rows good lacking n e.count ending e.asks)
                 ]
           ] in
-          let r = alike o rows x code number after e in
+          let r = alike o rows x ending after e in
           (inr (good, r.0), r.1)
     ]

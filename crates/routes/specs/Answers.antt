@@ -1,8 +1,9 @@
 -- What a search of a book alone answers.
-use Rattle.std.specs.Prelude.{◌≡◌, ℕ, ◌<◌, ◌≤◌, true, false, cond, List, [], length, Some, None, Ok, Err, Option, Result, ◌==◌}
+use Rattle.std.specs.Prelude.{◌≡◌, ℕ, ◌<◌, ◌≤◌, true, false, List, [], length, Some, None, Ok, Err, Option, Result}
+use Rattle.std.specs.List.{slice_get}
 use Rattle.survey.specs.declared.leg.LegRow.{LegRow}
 use Rattle.calls.specs.declared.order.Order.{Order}
-use Rattle.jobs.specs.Alone.{Alone, turn}
+use Rattle.jobs.specs.Alone.{Alone}
 use Rattle.routes.specs.declared.search.Search.{Search}
 use Rattle.routes.specs.declared.search.Next.{Next}
 use Rattle.routes.specs.declared.search.Next.TheVariants.{Line, Ended}
@@ -15,15 +16,16 @@ use Rattle.routes.specs.Routes.{Least, NoRoute, legs_of}
 abbrev pub still : Search → Alone LegRow Search
 still s = record { state = s; writes = [] }
 
--- one turn of a search, or nothing where the turn changes nothing
-abbrev pub Turned : List LegRow → Search → Option Search → Type 0
-Turned rows s (Some t) = turn route_family rows (still s) ≡ still t
-Turned rows s None = turn route_family rows (still s) ≡ still s
+-- the row that a search asks for, where the list has it
+abbrev pub asked_row : List LegRow → Next → Option LegRow
+asked_row rows (Line u l) = slice_get rows l
+asked_row rows (Ended found) = None
 
 -- the length that a search ended with, if it found a route
 abbrev pub length_found : Next → Option ℕ
 length_found (Line u l) = None
-length_found (Ended code number) = cond (code == 0) (Some number) None
+length_found (Ended (Ok found)) = found
+length_found (Ended (Err bad)) = None
 
 -- the order of a search
 abbrev pub route_order : ℕ → ℕ → ℕ → Order

@@ -1,5 +1,6 @@
 pub mod Reaches
 pub mod Searches
+pub mod Errands
 pub mod Routes
 pub mod Refusals
 pub mod Answers

@@ -2,7 +2,9 @@
 use Rattle.std.specs.Prelude.{◌≡◌, ℕ, ◌+◌, ◌*◌, ◌%◌, ◌<◌, ◌≤◌, true, false, ◌⊎◌, List, [], ◌∷◌, map, length, take}
 use Rattle.survey.specs.declared.leg.LegRow.{LegRow}
 use Rattle.survey.specs.Legs.{as_leg, leads}
+use Rattle.calls.specs.declared.ending.Ending.{Ending}
 use Rattle.calls.specs.declared.order.Order.{Order}
+use Rattle.calls.specs.Endings.{bad_ending}
 use Rattle.jobs.specs.declared.request.Request.TheVariants.{Read, End}
 use Rattle.jobs.specs.Alone.{after_turns, Ends}
 use Rattle.routes.specs.Searches.{route_family, bad_order}
@@ -29,30 +31,27 @@ abbrev pub legs_of : List LegRow → ℕ → List LegRow
 legs_of rows c = map as_leg (take c rows)
 
 -- what code and number say: 0 with the least length, or 1 with 0 where there is no route
-abbrev pub Right : List LegRow → ℕ → ℕ → ℕ → ℕ → Type 0
-Right legs a b code number = ((code ≡ 0) × Least legs a b number) ⊎ ((code ≡ 1) × (number ≡ 0) × NoRoute legs a b)
+abbrev pub Right : List LegRow → ℕ → ℕ → Ending → Type 0
+Right legs a b e = ((e.code ≡ 0) × Least legs a b e.number) ⊎ ((e.code ≡ 1) × (e.number ≡ 0) × NoRoute legs a b)
 
 -- Done alone on the rows, the search reads the lines below c in order, over and over, and asks to end after at most 15 × c turns; it has written nothing, and its answer is right.
 pub record Searched (o : Order) (rows : List LegRow) : Type 0 where
   pub count : ℕ
   pub soon : count ≤ 15 * o.c
   pub in_order : (k : ℕ) → k < count → route_family.request (after_turns route_family rows k o).state ≡ Read (k % o.c)
-  pub code : ℕ
-  pub number : ℕ
-  pub asks : route_family.request (after_turns route_family rows count o).state ≡ End code number
+  pub ending : Ending
+  pub asks : route_family.request (after_turns route_family rows count o).state ≡ End ending
   pub unwritten : (after_turns route_family rows count o).writes ≡ []
-  pub right : Right (legs_of rows o.c) o.a o.b code number
+  pub right : Right (legs_of rows o.c) o.a o.b ending
 
 -- every order that is not bad is searched so, on every list that has its lines
 abbrev pub SearchesAreRight : Type 0
 SearchesAreRight = (o : Order) (rows : List LegRow) → bad_order o ≡ false → o.c ≤ length rows → Searched o rows
 
 -- what an order that ended says of the rows: it is bad and is answered 9 and 0, or its answer is right
-abbrev pub Says : Order → List LegRow → ℕ → ℕ → Type 0
-Says o rows code number =
-    ((bad_order o ≡ true) × (code ≡ 9) × (number ≡ 0)) ⊎ ((bad_order o ≡ false) × Right (legs_of rows o.c) o.a o.b code number)
+abbrev pub Says : Order → List LegRow → Ending → Type 0
+Says o rows ending = ((bad_order o ≡ true) × (ending ≡ bad_ending)) ⊎ ((bad_order o ≡ false) × Right (legs_of rows o.c) o.a o.b ending)
 
 -- whatever rows a search alone ended on, its answer is right for them, and it left them as they were
 abbrev pub EndedSearchesAreRight : Type 0
-EndedSearchesAreRight =
-    (o : Order) (rows : List LegRow) (code number : ℕ) (after : List LegRow) → Ends route_family o rows code number after → Says o rows code number × (after ≡ rows)
+EndedSearchesAreRight = (o : Order) (rows : List LegRow) (ending : Ending) (after : List LegRow) → Ends route_family o rows ending after → Says o rows ending × (after ≡ rows)

@@ -1,25 +1,43 @@
 // The family of jobs that search a book of legs.
 ghost use Rattle.std.specs.Prelude.{◌≡◌};
-ghost use Rattle.routes.specs.Searches.{bad_order, route_family};
+ghost use Rattle.routes.specs.Searches.{ending_of, route_family};
 
+use crate::errand::Errand;
 use crate::search::{Next, Search};
-use calls::order::Order;
+use calls::ending::Ending;
+use calls::order::{BadOrder, Order};
 use jobs::family::Family;
 use jobs::request::Request;
-use survey::leg::{LAST_STATION, LegRow};
+use survey::leg::LegRow;
 
 // The most lines that a search reads.
 pub const MOST_LINES: u32 = 64;
+
+// A route was found, and the number is its length.
+pub const FOUND: u32 = 0;
+
+// There is no route; the number is 0.
+pub const NO_ROUTE: u32 = 1;
 
 // Kind 0 finds the least length of a route from station a to station b over the lines below c.
 #[derive(Clone, Copy)]
 pub struct Route;
 
-// Whether no search can be made of an order.
-pub(crate) fn is_bad(order: Order) -> bool
-    ensures { result ≡ bad_order order }
+// The code and the number by which a job of this family tells what its search found.
+fn ending(found: Result<Option<u32>, BadOrder>) -> Ending
+    ensures { result ≡ ending_of found }
 {
-    order.kind > 0 || order.a > LAST_STATION || order.b > LAST_STATION || order.c > MOST_LINES
+    match found {
+        Ok(Some(length)) => Ending {
+            code: FOUND,
+            number: length,
+        },
+        Ok(None) => Ending {
+            code: NO_ROUTE,
+            number: 0,
+        },
+        Err(bad) => Ending::from(bad),
+    }
 }
 
 impl Family for Route {
@@ -30,16 +48,16 @@ impl Family for Route {
     ghost meaning = { λ _. route_family };
 
     fn start(&self, order: Order) -> Search {
-        if is_bad(order) {
-            return Search::refused();
+        match Errand::try_from(order) {
+            Ok(errand) => Search::begin(errand),
+            Err(bad) => Search::refused(bad),
         }
-        Search::begin(order.a as u8, order.b as u8, order.c as u8)
     }
 
     fn request(&self, state: Search) -> Request<LegRow> {
         match state.next {
             Next::Line { station: _, line } => Request::Read { line: line as u32 },
-            Next::Ended { code, number } => Request::End { code, number },
+            Next::Ended(found) => Request::End(ending(found)),
         }
     }
 

@@ -2,6 +2,7 @@
 #![tactic(auto)]
 
 pub mod alone;
+pub mod errand;
 pub mod family;
 pub mod reach;
 pub mod refusal;

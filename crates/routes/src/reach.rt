@@ -1,18 +1,24 @@
 // How far the stations are by the routes that a search has found, and the nearest that it has not finished.
 ghost use Rattle.std.specs.Prelude.{◌≡◌, ◌<◌, ◌≤◌};
-ghost use Rattle.routes.specs.Reaches.{distance_to, improved, relaxed, to_beat, with_station, nearest_of, Inside};
+ghost use Rattle.routes.specs.Reaches.{unknown, all_unknown, reached_first, station_at, improved, relaxed, marked, with_station, nearest_of, Inside};
 
 use survey::leg::Leg;
 
 pub const STATIONS: usize = 16;
 
-// The distance of a station to which no route was found: more than any route that visits no station twice.
-pub(crate) const UNREACHED: u32 = u32::MAX;
+// What a search knows of a station.
+#[derive(Clone, Copy)]
+pub struct Station {
+    // The length of the shortest route to it that was found, if one was.
+    pub distance: Option<u32>,
+    // A station is finished once its least distance is known; it is marked when it is chosen.
+    pub finished: bool,
+}
 
-// The distance of each station.
+// What a search knows of each station.
 #[derive(Clone, Copy)]
 pub struct Reach {
-    pub distances: [u32; STATIONS],
+    pub stations: [Station; STATIONS],
 }
 
 // A station and its distance.
@@ -22,73 +28,110 @@ pub struct Nearest {
     pub distance: u32,
 }
 
-// The distance that a station must be below to be nearer.
-fn distance_to_beat(best: Option<Nearest>) -> u32
-    ensures { result ≡ to_beat best }
-{
-    match best {
-        Some(nearest) => nearest.distance,
-        None => UNREACHED,
+impl Station {
+    // A station to which no route was found.
+    fn unknown() -> Station
+        ensures { result ≡ unknown }
+    {
+        Station {
+            distance: None,
+            finished: false,
+        }
+    }
+
+    // The nearer of `best` and this station, unless it is finished or not reached.
+    fn nearer(self, number: u8, best: Option<Nearest>) -> Option<Nearest>
+        ensures { result ≡ with_station self number best }
+    {
+        let Some(distance) = self.distance else {
+            return best;
+        };
+        if !self.finished && best.is_none_or(|best| distance < best.distance) {
+            Some(Nearest {
+                station: number,
+                distance,
+            })
+        } else {
+            best
+        }
     }
 }
 
 impl Reach {
-    fn distance(&self, station: u8) -> u32
-        ensures { result ≡ distance_to self.now.distances station }
+    // No station is reached.
+    pub(crate) fn nowhere() -> Reach
+        ensures { result.stations ≡ all_unknown }
     {
-        if (station as usize) < STATIONS {
-            self.distances[station as usize]
-        } else {
-            UNREACHED
+        Reach {
+            stations: [Station::unknown(); STATIONS],
         }
     }
 
-    // Notes a route of length `distance` to a station, if one was `found` and it is shorter.
-    fn improve(&mut self, found: bool, station: u8, distance: u32)
-        requires { station ≤ 15 }
-        ensures { self.new ≡ improved found station distance self.old }
+    // The first station alone is reached, and it is the first to be finished.
+    pub(crate) fn first(station: u8) -> Reach
+        requires { station < 16 }
+        ensures { result.stations ≡ reached_first station }
     {
-        if found && distance < self.distances[station as usize] {
-            self.distances[station as usize] = distance;
+        let mut reach = Reach::nowhere();
+        reach.stations[station as usize] = Station {
+            distance: Some(0),
+            finished: true,
+        };
+        reach
+    }
+
+    fn station(&self, number: u8) -> Station
+        ensures { result ≡ station_at self.now.stations number }
+    {
+        self.stations
+            .get(number as usize)
+            .copied()
+            .unwrap_or(Station::unknown())
+    }
+
+    // Notes a route of length `distance` to a station, if it is shorter.
+    fn improve(&mut self, station: u8, distance: u32)
+        requires { station ≤ 15 }
+        ensures { self.new.stations ≡ improved station distance self.old.stations }
+    {
+        let known = &mut self.stations[station as usize];
+        if known.distance.is_none_or(|least| distance < least) {
+            known.distance = Some(distance);
         }
     }
 
     // Takes a leg from `station` into account.
     pub(crate) fn relax(&mut self, station: u8, leg: Leg)
-        ensures { self.new ≡ relaxed station leg.row self.old }
+        ensures { self.new.stations ≡ relaxed station leg.row self.old.stations }
     {
-        let along = self.distance(station).saturating_add(leg.length());
-        self.improve(leg.leads(station, leg.to()), leg.to(), along);
-        self.improve(leg.leads(station, leg.from()), leg.from(), along);
+        let Some(distance) = self.station(station).distance else {
+            return;
+        };
+        let along = distance.saturating_add(leg.length());
+        if leg.leads(station, leg.to()) {
+            self.improve(leg.to(), along);
+        }
+        if leg.leads(station, leg.from()) {
+            self.improve(leg.from(), along);
+        }
     }
 
-    // The nearer of `best` and `station`, unless that is finished.
-    fn nearer(
-        &self,
-        finished: &[bool; STATIONS],
-        station: u8,
-        best: Option<Nearest>,
-    ) -> Option<Nearest>
+    // Marks a station as finished.
+    pub(crate) fn finish(&mut self, station: u8)
         requires { station < 16 }
-        ensures { result ≡ with_station self.now.distances finished.now station best }
+        ensures { self.new.stations ≡ marked station self.old.stations }
     {
-        let distance = self.distances[station as usize];
-        if !finished[station as usize] && distance < distance_to_beat(best) {
-            Some(Nearest { station, distance })
-        } else {
-            best
-        }
+        self.stations[station as usize].finished = true;
     }
 
     // The nearest station that is reached and not finished, the lowest number among equals.
-    pub(crate) fn nearest(&self, finished: &[bool; STATIONS]) -> Option<Nearest>
-        ensures value { result ≡ nearest_of self.now.distances finished.now }
+    pub(crate) fn nearest(&self) -> Option<Nearest>
+        ensures value { result ≡ nearest_of self.now.stations }
         ensures inside { Inside result }
     {
-        let mut best = None;
-        for station in 0..STATIONS as u8 {
-            best = self.nearer(finished, station, best);
-        }
-        best
+        (0..STATIONS as u8).fold(
+            None,
+            |best, number| self.station(number).nearer(number, best),
+        )
     }
 }

@@ -1,6 +1,9 @@
 // Why a book is not searched.
 ghost use Rattle.std.specs.Prelude.{◌≡◌};
 ghost use Rattle.routes.specs.Refusals.{number};
+ghost use Rattle.routes.specs.declared.refusal.SearchRefusal.TheVariants as refusal;
+
+use calls::order::BadOrder;
 
 #[derive(Clone, Copy, Debug, PartialEq, Eq)]
 pub enum SearchRefusal {
@@ -19,5 +22,13 @@ impl SearchRefusal {
             SearchRefusal::BadOrder => 9,
             SearchRefusal::NoLine => 4,
         }
+    }
+}
+
+impl From<BadOrder> for SearchRefusal {
+    ghost from_gives = { λ _ given. given ≡ refusal.BadOrder };
+
+    fn from(_bad: BadOrder) -> SearchRefusal {
+        Self::BadOrder
     }
 }

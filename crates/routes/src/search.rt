@@ -1,27 +1,21 @@
 // The state of a search, and how it goes on.
-ghost use Rattle.std.specs.Prelude.{◌≡◌, ◌<◌};
+ghost use Rattle.std.specs.Prelude.{◌≡◌};
 ghost use Rattle.routes.specs.Searches.{refused, begun_at, first_next, choose, line_done, after_row};
 ghost use Rattle.routes.specs.Answers.{length_found};
 
-use crate::reach::{Reach, STATIONS, UNREACHED};
+use crate::errand::Errand;
+use crate::reach::Reach;
+use calls::order::BadOrder;
 use survey::leg::LegRow;
 use survey::row::Row;
-
-// A route was found, and the number is its length.
-pub const FOUND: u32 = 0;
-
-// There is no route; the number is 0.
-pub const NO_ROUTE: u32 = 1;
-
-// The order is bad; the number is 0.
-pub const BAD_ORDER: u32 = 9;
 
 // What a search does next.
 #[derive(Clone, Copy)]
 pub enum Next {
     // Reads a line, for the station that it is finishing.
     Line { station: u8, line: u8 },
-    Ended { code: u32, number: u32 },
+    // The least length, if there is a route; or the order was bad.
+    Ended(Result<Option<u32>, BadOrder>),
 }
 
 // A search for the target over the first `count` lines.
@@ -31,78 +25,55 @@ pub struct Search {
     pub count: u8,
     pub next: Next,
     pub reach: Reach,
-    // A station is finished once its least distance is known; it is marked when it is chosen.
-    pub finished: [bool; STATIONS],
 }
 
 impl Search {
     // The search of a bad order, in which no station is reached.
-    pub(crate) fn refused() -> Search
-        ensures { result ≡ refused }
+    pub(crate) fn refused(bad: BadOrder) -> Search
+        ensures { result ≡ refused bad }
     {
         Search {
             target: 0,
             count: 0,
-            next: Next::Ended {
-                code: BAD_ORDER,
-                number: 0,
-            },
-            reach: Reach {
-                distances: [UNREACHED; STATIONS],
-            },
-            finished: [false; STATIONS],
+            next: Next::Ended(Err(bad)),
+            reach: Reach::nowhere(),
         }
     }
 
-    // The search from one station to another over the lines below `count`; the first station is finished first.
-    pub(crate) fn begin(from: u8, to: u8, count: u8) -> Search
-        requires { from < 16 }
-        ensures { result ≡ begun_at from to count (first_next from to count) }
+    // The search of an errand; the first station is finished first.
+    pub(crate) fn begin(errand: Errand) -> Search
+        ensures { result ≡ begun_at errand.from errand.to errand.count }
     {
-        let mut distances = [UNREACHED; STATIONS];
-        distances[from as usize] = 0;
-        let mut finished = [false; STATIONS];
-        finished[from as usize] = true;
         Search {
-            target: to,
-            count,
-            next: first_next(from, to, count),
-            reach: Reach { distances },
-            finished,
+            target: errand.to,
+            count: errand.count,
+            next: first_next(errand),
+            reach: Reach::first(errand.from),
         }
     }
 
     // Goes on with the nearest unfinished station, unless that is the target, or none is reached.
     fn choose_next(&mut self)
-        ensures { self.new ≡ choose self.old.target self.old.count self.old.reach self.old.finished }
+        ensures { self.new ≡ choose self.old.target self.old.count self.old.reach }
     {
-        match self.reach.nearest(&self.finished) {
-            None => {
-                self.next = Next::Ended {
-                    code: NO_ROUTE,
-                    number: 0,
-                };
-            }
+        self.next = match self.reach.nearest() {
+            None => Next::Ended(Ok(None)),
+            Some(nearest) if nearest.station == self.target => Next::Ended(Ok(Some(
+                nearest.distance,
+            ))),
             Some(nearest) => {
-                if nearest.station == self.target {
-                    self.next = Next::Ended {
-                        code: FOUND,
-                        number: nearest.distance,
-                    };
-                } else {
-                    self.finished[nearest.station as usize] = true;
-                    self.next = Next::Line {
-                        station: nearest.station,
-                        line: 0,
-                    };
+                self.reach.finish(nearest.station);
+                Next::Line {
+                    station: nearest.station,
+                    line: 0,
                 }
             }
-        }
+        };
     }
 
     // Goes on once a line was taken into account: with the next line, or after the last one with the next station.
     fn finish_line(&mut self, station: u8, line: u8)
-        ensures { self.new ≡ line_done self.old.target self.old.count station line self.old.reach self.old.finished }
+        ensures { self.new ≡ line_done self.old.target self.old.count station line self.old.reach }
     {
         if self.count.saturating_sub(line) > 1 {
             self.next = Next::Line {
@@ -129,29 +100,27 @@ impl Search {
         ensures { result ≡ length_found self.now.next }
     {
         match self.next {
-            Next::Ended { code, number } if code == FOUND => Some(number),
-            _ => None,
+            Next::Ended(Ok(found)) => found,
+            Next::Ended(Err(_)) => None,
+            Next::Line {
+                station: _,
+                line: _,
+            } => None,
         }
     }
 }
 
 // The first station's lines come first, unless it is the target, or there is no line.
-fn first_next(from: u8, to: u8, count: u8) -> Next
-    ensures { result ≡ first_next from to count }
+fn first_next(errand: Errand) -> Next
+    ensures { result ≡ first_next errand.from errand.to errand.count }
 {
-    if from == to {
-        Next::Ended {
-            code: FOUND,
-            number: 0,
-        }
-    } else if count == 0 {
-        Next::Ended {
-            code: NO_ROUTE,
-            number: 0,
-        }
+    if errand.from == errand.to {
+        Next::Ended(Ok(Some(0)))
+    } else if errand.count == 0 {
+        Next::Ended(Ok(None))
     } else {
         Next::Line {
-            station: from,
+            station: errand.from,
             line: 0,
         }
     }

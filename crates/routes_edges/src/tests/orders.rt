@@ -1,6 +1,7 @@
 // Orders at their limits, as a call and as a job.
 use super::tables::open_leg;
 use book::flat::FlatBook;
+use calls::ending::Ending;
 use calls::order::Order;
 use jobs::family::Family;
 use jobs::request::Request;
@@ -47,7 +48,7 @@ fn first_request(kind: u32, a: u32, b: u32, c: u32, d: u32) -> (Option<u32>, u32
     match Route.request(Route.start(order)) {
         Request::Read { line } => (Some(line), 0, 0),
         Request::Write { line, value: _ } => (Some(line), u32::MAX, u32::MAX),
-        Request::End { code, number } => (None, code, number),
+        Request::End(Ending { code, number }) => (None, code, number),
     }
 }
 

@@ -1,5 +1,6 @@
 // A route job turn by turn: which lines it reads, how soon it ends, and what a write or a read out of turn does.
 use super::tables::{lay_chain, open_leg};
+use calls::ending::Ending;
 use calls::order::Order;
 use jobs::family::Family;
 use jobs::request::Request;
@@ -37,7 +38,7 @@ fn course(rows: &[LegRow], a: u32, b: u32) -> Course {
                 }
             }
             Request::Write { line: _, value: _ } => return (reads, false, 0, 0),
-            Request::End { code, number } => return (reads, in_order, code, number),
+            Request::End(Ending { code, number }) => return (reads, in_order, code, number),
         }
     }
     (1000, false, 0, 0)
@@ -96,7 +97,7 @@ fn moves_out_of_turn_change_nothing(rt: HostRuntime) -> Result<(), Fail> {
         d: 0,
     };
     let ended = Route.after_write(Route.after_read(Route.start(order), open_leg(0, 1, 1)));
-    let Request::End { code, number } = Route.request(ended) else {
+    let Request::End(Ending { code, number }) = Route.request(ended) else {
         return Err(Fail::new("the job goes on"));
     };
     assert_eq!(rt; (code, number), (0, 0));

@@ -1,4 +1,4 @@
-use Rattle.std.proofs.Common.{◌*◌, sym, ap, ◌∙◌, subst}
+use Rattle.std.proofs.Common.{ℕ, ◌*◌, sym, ap, ◌∙◌, subst, arith}
 use Rattle.jobs.specs.Alone.{turns}
 use Rattle.routes.specs.declared.search.Search.{Search}
 use Rattle.routes.specs.Searches.{route_family}
@@ -9,8 +9,9 @@ use Rattle.routes.proofs.alone.answer.Goals as goal
 
 pub returns : goal.returns
 returns g c =
-    let o = c.args.order in
+    let o = c.args.errand in
     let rows = g.B.Book.lines c.args.book.now in
-    let last = c.take_turns-last in
-    let e = ap (λ (s : Search). turns route_family rows (15 * o.c) (still s)) (sym c.start-first.ensures) ∙ last.ensures in
-    subst (Answers (legs_of rows o.c) o.a o.b) (sym c.length_found.ensures) (answer_is_right o rows c.requires.good c.requires.enough last.result e)
+    let e = ap (λ (s : Search). turns route_family rows (15 * o.count) (still s)) (sym c.begin-search.ensures)
+    ∙ (ap (λ (n : ℕ). turns route_family rows (15 * n) (still c.begin-search.result)) (sym c.from.ensures) ∙ c.take_turns.ensures) in
+    subst (Answers (legs_of rows o.count) o.from o.to) (sym c.length_found.ensures)
+    (answer_is_right rows o.from o.to o.count (omega arith) (omega arith) c.requires c.take_turns.new.search e)
