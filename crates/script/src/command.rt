@@ -10,7 +10,7 @@ ghost use Rattle.script.specs.Shown.{Told, ReadsBack};
 use crate::fault::{LineCause, LineFault};
 use crate::letter::Letter;
 use crate::reader::Reader;
-use crate::word::{Word, WordKind};
+use crate::word::WordKind;
 use calls::call::Call;
 use calls::order::Order;
 
@@ -46,13 +46,8 @@ fn check_count(line: &[u8], letter: Letter) -> Result<(), LineFault>
 fn first_letter(words: &mut Reader) -> Result<Letter, LineFault>
     ensures { FirstLetter words.old words.new result }
 {
-    match words.word() {
-        Some(
-            Word {
-                kind: WordKind::Letter(letter),
-                ..
-            },
-        ) => Ok(letter),
+    match words.word().map(|word| word.kind) {
+        Some(WordKind::Letter(letter)) => Ok(letter),
         _ => Err(LineFault {
             place: 0,
             cause: LineCause::UnknownLetter,
