@@ -6,9 +6,9 @@ ghost use Rattle.script.specs.Numbers.{number_of};
 ghost use Rattle.bench_abi.specs.Sums.{item_sum, list_sum, number_or_none};
 
 use calls::call::Call;
-use script::list::TurnList;
 use script::listing::Fault;
 use script::number::number;
+use script::turns::Turns;
 
 pub mod routes_alone;
 
@@ -18,13 +18,13 @@ fn sum_of_item(item: Result<Call, Fault>) -> u64
 {
     match item {
         Ok(Call::Start { seat, order }) => {
-            let front = seat as u64 + order.kind as u64 + order.a as u64;
-            front + order.b as u64 + order.c as u64 + order.d as u64
+            let front = u64::from(seat) + u64::from(order.kind) + u64::from(order.a);
+            front + u64::from(order.b) + u64::from(order.c) + u64::from(order.d)
         }
-        Ok(Call::Step { seat }) => seat as u64,
-        Ok(Call::Withdraw { seat }) => seat as u64,
-        Ok(Call::Look { line }) => line as u64,
-        Err(fault) => fault.number as u64,
+        Ok(Call::Step { seat }) => u64::from(seat),
+        Ok(Call::Withdraw { seat }) => u64::from(seat),
+        Ok(Call::Look { line }) => u64::from(line),
+        Err(fault) => u64::from(fault.number()),
     }
 }
 
@@ -33,15 +33,10 @@ fn sum_of_item(item: Result<Call, Fault>) -> u64
 pub extern "C" fn list_sum(bytes: &[u8]) -> u64
     ensures { result ≡ list_sum bytes.now }
 {
-    let Ok(list) = TurnList::new(bytes) else {
+    let Ok(turns) = Turns::try_from(bytes) else {
         return 0;
     };
-    let mut turns = list.turns();
-    let mut sum = 0u64;
-    while let Some(item) = turns.next() {
-        sum = sum.wrapping_add(sum_of_item(item));
-    }
-    sum
+    turns.fold(0, |sum: u64, item| sum.wrapping_add(sum_of_item(item)))
 }
 
 // The number that a word is, or the largest of 64 bits.
@@ -49,8 +44,5 @@ pub extern "C" fn list_sum(bytes: &[u8]) -> u64
 pub extern "C" fn word_number(word: &[u8]) -> u64
     ensures { result ≡ number_or_none (number_of word.now) }
 {
-    match number(word) {
-        Some(number) => number as u64,
-        None => u64::MAX,
-    }
+    number(word).map_or(u64::MAX, u64::from)
 }

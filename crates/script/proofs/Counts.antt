@@ -1,6 +1,7 @@
 -- How many words a line has. Assumes nothing.
-use Rattle.std.proofs.Common.{◌≡◌, ℕ, ◌+◌, ◌<◌, ◌≤◌, cond, List, [], ◌∷◌, length, get_or, drop, ap, ◌∙◌, arith, eq-eqb, ne_eqb}
-use Rattle.std.proofs.lemmas.List.{drop_more, drop_all}
+use Rattle.std.proofs.Common.{◌≡◌, ℕ, ◌+◌, ◌==◌, true, false, cond, eqb, List, [], ◌∷◌, length, sym, refl, ap, ◌∙◌, arith}
+use Rattle.std.specs.List.{count_by}
+use Rattle.std.proofs.lemmas.List.Sums.{sum_by-cons}
 use Rattle.script.specs.Cuts.{onto, cut, words}
 use Rattle.script.proofs.Parts.{word_step}
 
@@ -8,21 +9,10 @@ use Rattle.script.proofs.Parts.{word_step}
 length_onto : (b : ℕ) (bs : List ℕ) → length (onto b (words bs)) ≡ length (words bs)
 length_onto b bs = rw (word_step 32 bs)
 
-module _ (xs : List ℕ) (i : ℕ) where
-  pub at_space : i < length xs → get_or xs i 0 ≡ 32 → length (words (drop i xs)) ≡ length (words (drop (i + 1) xs)) + 1
-  unfolding cut
-  at_space inside is =
-      let rest = drop (i + 1) xs in
-      let b = get_or xs i 0 in
-      ap (λ l. length (words l)) (drop_more xs i 0 inside) ∙ ap (λ t. length (cond t ([] ∷ words rest) (onto b (words rest)))) (eq-eqb b 32 is) ∙ omega arith
-
-  pub at_other : i < length xs → (get_or xs i 0 ≡ 32 → ⊥) → length (words (drop i xs)) ≡ length (words (drop (i + 1) xs))
-  unfolding cut
-  at_other inside is =
-      let rest = drop (i + 1) xs in
-      let b = get_or xs i 0 in
-      ap (λ l. length (words l)) (drop_more xs i 0 inside) ∙ ap (λ t. length (cond t ([] ∷ words rest) (onto b (words rest)))) (ne_eqb b 32 is) ∙ length_onto b rest
-
-  pub at_end : length xs ≤ i → length (words (drop i xs)) ≡ 1
-  unfolding cut
-  at_end past = ap (λ l. length (words l)) (drop_all i xs past)
+pub length_words : (line : List ℕ) → length (words line) ≡ count_by (λ b. b == 32) line + 1
+unfolding cut
+length_words [] = refl
+length_words (b ∷ bs) =
+    elim (eqb b 32) as (λ t. length (cond t ([] ∷ words bs) (onto b (words bs))) ≡ (cond t 1 0 + count_by (λ c. c == 32) bs) + 1)
+    [ true ↦ omega (arith, length_words bs) | false ↦ omega (arith, length_onto b bs, length_words bs) ]
+    ∙ sym (ap (λ n. n + 1) (sum_by-cons (λ c. cond (c == 32) 1 0) b bs))

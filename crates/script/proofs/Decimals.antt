@@ -34,7 +34,7 @@ spelt_only_digits n m (b ∷ bs) e =
     let small : digit_value b < 10 = omega arith in
     ((small, rest.0), ap (λ d. digits_value_after 10 (n * 10 + d) bs) (sym same) ∙ rest.1))
     (λ f.
-    let z : ◌≡◌ {A = ℕ} 0 1 = cc (rw f at e) in absurd (omega arith))
+    absurd (cc (rw f at e)))
     (cases_Bool (is_digit b))
 
 never_padded : (n : ℕ) → n < 2 ^ 64 → padded (decimal n) ≡ false
@@ -60,11 +60,11 @@ number_of_decimal n h =
     ∙ cond-true _ _ _ (lt-ltb n (2 ^ 32) h)
 
 held_is : (o : Option ℕ) (n : ℕ) → held o ≡ Some n → (o ≡ Some n) × (n < 2 ^ 32)
-held_is None n e = let z : ◌≡◌ {A = ℕ} 0 1 = cc in absurd (omega arith)
+held_is None n e = absurd (cc)
 held_is (Some m) n e =
     ⊎_elim
     (λ t. let same : m ≡ n = cc (rw t at e) in (ap Some same, omega (arith, ltb-true m (2 ^ 32) t)))
-    (λ f. let z : ◌≡◌ {A = ℕ} 0 1 = cc (rw f at e) in absurd (omega arith))
+    (λ f. absurd (cc (rw f at e)))
     (cases_Bool (ltb m (2 ^ 32)))
 
 pub number_is_decimal : (w : List ℕ) (n : ℕ) → number_of w ≡ Some n → (n < 2 ^ 32) × (w ≡ decimal n)
@@ -82,9 +82,9 @@ number_is_decimal w n e =
     (cases_Bool (ltb 1 (length w))) in
     let small : digits_value 10 w < 2 ^ 64 = omega (arith, digits.1, known.1) in
     (known.1, sym (decimal-digits_value (numerals_by_value _ tells_digits) w digits.0 (ltb-true 0 (length w) shape.0) plain small) ∙ ap decimal digits.1))
-    (λ f. let z : ◌≡◌ {A = ℕ} 0 1 = cc (rw f at e) in absurd (omega arith))
+    (λ f. absurd (cc (rw f at e)))
     (cases_Bool (ltb 0 (length w) && (leb (length w) 10 && not (padded w))))
 
 pub is_writing : (w : List ℕ) (r : Option ℕ) → r ≡ number_of w → IsWriting w r
 is_writing w (Some n) e = number_is_decimal w n (sym e)
-is_writing w None e = λ n h is. let z : ◌≡◌ {A = ℕ} 0 1 = cc (e, ap number_of is, number_of_decimal n h) in omega arith
+is_writing w None e = λ n h is. absurd (cc (e, ap number_of is, number_of_decimal n h))

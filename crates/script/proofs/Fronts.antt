@@ -1,21 +1,32 @@
--- The part up to the first separator, by its length. Assumes nothing.
-use Rattle.std.proofs.Common.{◌≡◌, ℕ, zero, suc, ◌+◌, ◌-◌, ◌<◌, ◌≤◌, List, [], ◌∷◌, length, get_or, take, drop, sym, refl, ap, ◌∙◌, arith, length-drop, get_or-drop, eq-eqb, ne_eqb}
+-- The part up to the first separator. Assumes nothing.
+use Rattle.std.proofs.Common.{◌≡◌, ℕ, suc, ◌+◌, ◌-◌, ◌==◌, Bool, not, true, false, cond, eqb, List, [], ◌∷◌, length, take, drop, Option, refl, ap, ◌∙◌, ⊎_elim, arith, lt-ltb, length-drop}
+use Rattle.std.specs.Prelude.{unwrap_or}
+use Rattle.std.specs.List.{position, position_or_len}
+use Rattle.std.proofs.lemmas.Bool.{cases_lt, cond-true, cond-false, le-ltb}
+use Rattle.std.proofs.lemmas.List.{take_all}
+use Rattle.std.proofs.lemmas.List.Sums.{prefix_len-le-length}
 use Rattle.script.specs.Cuts.{front}
 
-front_is : (s n : ℕ) (xs : List ℕ) → n ≤ length xs → ((k : ℕ) → k < n → get_or xs k 0 ≡ s → ⊥) → (n < length xs → get_or xs n 0 ≡ s) → take n xs ≡ front s xs
+front_is : (s : ℕ) (xs : List ℕ) → take (position_or_len (λ b. b == s) xs) xs ≡ front s xs
 unfolding front
-front_is s zero [] room before here = refl
-front_is s (suc n) [] room before here = refl
-front_is s zero (x ∷ xs) room before here = rw (eq-eqb x s (here (omega arith)))
-front_is s (suc n) (x ∷ xs) room before here =
-    rw (ne_eqb x s (before 0 (omega arith)))
-    (ap (λ l. x ∷ l) (front_is s n xs (omega arith) (λ k lt. before (suc k) (omega arith)) (λ lt. here (omega arith))))
+front_is s [] = refl
+front_is s (b ∷ bs) =
+    let n = position_or_len (λ c. c == s) bs in
+    let more : 1 + n ≡ suc n = omega arith in
+    elim (eqb b s) as (λ t. take (cond (not t) (1 + position_or_len (λ c. c == s) bs) 0) (b ∷ bs) ≡ cond t [] (b ∷ front s bs))
+    [ true ↦ refl | false ↦ ap (λ k. take k (b ∷ bs)) more ∙ ap (λ l. b ∷ l) (front_is s bs) ]
 
--- the same for a part of a longer list, from a place to an end
-pub front_between : (s place end : ℕ) (xs : List ℕ) → place ≤ end → end ≤ length xs → ((k : ℕ) → place ≤ k → k < end → get_or xs k 0 ≡ s → ⊥) → (end < length xs → get_or xs end 0 ≡ s) → take (end - place) (drop place xs) ≡ front s (drop place xs)
-front_between s place end xs forward room before here =
-    front_is s (end - place) (drop place xs) (simp length-drop (omega arith))
-    (λ k lt is. before (place + k) (omega arith) (omega arith) (sym (get_or-drop place xs k 0) ∙ is))
-    (λ lt.
-    let at : place + (end - place) ≡ end = omega arith in
-    get_or-drop place xs (end - place) 0 ∙ ap (λ i. get_or xs i 0) at ∙ here (omega (arith, simp length-drop at lt)))
+place_or_all : (p : ℕ → Bool) (xs : List ℕ) → unwrap_or (position p xs) (length xs) ≡ position_or_len p xs
+place_or_all p xs =
+    let n = position_or_len p xs in
+    ⊎_elim
+    (λ lt. ap (λ o. unwrap_or o (length xs)) (cond-true _ _ _ (lt-ltb n (length xs) lt)))
+    (λ ge. ap (λ o. unwrap_or o (length xs)) (cond-false _ _ _ (le-ltb n (length xs) ge)) ∙ omega (arith, prefix_len-le-length (λ b. not (p b)) xs))
+    (cases_lt n (length xs))
+
+-- the part from a place on, by the place of the separator behind it, if there is one
+pub front_from : (s place end : ℕ) (xs : List ℕ) (o : Option ℕ) → let rest = take (length xs - place) (drop place xs) in o ≡ position (λ b. b == s) rest → end ≡ unwrap_or o (length rest) → take end rest ≡ front s (drop place xs)
+front_from s place end xs o found is =
+    let rest = take (length xs - place) (drop place xs) in
+    let whole : rest ≡ drop place xs = take_all (length xs - place) (drop place xs) (simp length-drop (omega arith)) in
+    ap (λ n. take n rest) (is ∙ ap (λ p. unwrap_or p (length rest)) found ∙ place_or_all (λ b. b == s) rest) ∙ front_is s rest ∙ ap (front s) whole

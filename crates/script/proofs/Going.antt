@@ -1,11 +1,11 @@
 -- What reading numbers one by one keeps. Assumes nothing.
 use Rattle.std.proofs.Common.{◌≡◌, ℕ, ◌+◌, ◌<◌, ◌≤◌, List, [], ◌∷◌, ◌++◌, length, take, set, replicate, Ok, Err, Result, sym, refl, ap, ◌∙◌, arith}
 use Rattle.std.proofs.lemmas.List.{take_more_set, take_all, append-nil, append_assoc, length-set, length-replicate, nil_from_length}
-use Rattle.script.specs.declared.fault.LineFault.{LineFault}
 use Rattle.script.specs.declared.reader.Reader.{Reader}
 use Rattle.script.specs.Commands.{in_front, numbers_in}
 use Rattle.script.specs.Readers.{words_left}
 use Rattle.script.specs.Reading.{numbers_left, OneLess}
+use Rattle.script.specs.Faults.{LineFault}
 
 -- numbers that were read, in front of those to come
 abbrev pub ahead : List ℕ → Result (List ℕ) LineFault → Result (List ℕ) LineFault

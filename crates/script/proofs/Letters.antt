@@ -1,5 +1,5 @@
 -- Which words are letters. Assumes nothing.
-use Rattle.std.proofs.Common.{◌≡◌, ℕ, cond, eqb, List, [], ◌∷◌, Some, None, Option, sym, refl, ap, ◌∙◌, ⊎_elim, arith}
+use Rattle.std.proofs.Common.{◌≡◌, ℕ, cond, eqb, List, [], ◌∷◌, Some, None, Option, sym, refl, ap, ◌∙◌, ⊎_elim}
 use Rattle.std.proofs.lemmas.Bool.{eqb-true, cases_Bool}
 use Rattle.script.specs.declared.letter.Letter.{Letter}
 use Rattle.script.specs.declared.letter.Letter.TheVariants.{Start, Step, Withdraw, Look}
@@ -17,13 +17,13 @@ choice b n here l rest is e others =
 named_is : (b : ℕ) (l : Letter) → letter_named b ≡ Some l → b ≡ letter_byte l
 named_is b l e =
     choice b 83 Start l _ refl e
-    (λ e₁. choice b 84 Step l _ refl e₁ (λ e₂. choice b 87 Withdraw l _ refl e₂ (λ e₃. choice b 76 Look l _ refl e₃ (λ e₄. let z : ◌≡◌ {A = ℕ} 0 1 = cc in absurd (omega arith)))))
+    (λ e₁. choice b 84 Step l _ refl e₁ (λ e₂. choice b 87 Withdraw l _ refl e₂ (λ e₃. choice b 76 Look l _ refl e₃ (λ e₄. absurd (cc)))))
 
 -- a letter is all of its word
 pub letter_is : (w : List ℕ) (l : Letter) → letter_of w ≡ Some l → w ≡ letter_byte l ∷ []
-letter_is [] l e = let z : ◌≡◌ {A = ℕ} 0 1 = cc in absurd (omega arith)
+letter_is [] l e = absurd (cc)
 letter_is (b ∷ []) l e = ap (λ c. c ∷ []) (named_is b l e)
-letter_is (b ∷ c ∷ bs) l e = let z : ◌≡◌ {A = ℕ} 0 1 = cc in absurd (omega arith)
+letter_is (b ∷ c ∷ bs) l e = absurd (cc)
 
 pub letter_of_byte : (l : Letter) → letter_of (letter_byte l ∷ []) ≡ Some l
 letter_of_byte Start = refl

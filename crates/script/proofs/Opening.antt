@@ -2,12 +2,11 @@
 use Rattle.std.proofs.Common.{◌≡◌, ℕ, ◌+◌, Bool, true, false, cond, eqb, List, length, Ok, Err, Result, sym, refl, ap, ◌∙◌, arith, le-leb}
 use Rattle.std.proofs.lemmas.Bool.{cond-true, cond-false, eqb-true, eqb-false, eq-eqb, ne_eqb}
 use Rattle.script.specs.declared.letter.Letter.{Letter}
-use Rattle.script.specs.declared.fault.LineFault.{LineFault}
 use Rattle.script.specs.declared.fault.LineCause.TheVariants.{WordCount}
 use Rattle.script.specs.declared.reader.Reader.{Reader}
 use Rattle.script.specs.Commands.{counted, called, from_letter, line_says}
 use Rattle.script.specs.Cuts.{words}
-use Rattle.script.specs.Faults.{fault_at}
+use Rattle.script.specs.Faults.{fault_at, LineFault}
 use Rattle.script.specs.Letters.{numbers_after}
 use Rattle.script.specs.Readers.{text, words_from, words_left}
 use Rattle.script.specs.Reading.{numbers_left, FirstLetter}
@@ -19,10 +18,10 @@ words_from_start line = cond-true _ _ _ (le-leb 0 (length line) (omega arith))
 -- what a test that refuses tells
 passed : (t : Bool) (g : LineFault) (o : Result (Unit {0}) LineFault) → o ≡ cond t (Ok tt) (Err g) → o ≡ Ok tt → t ≡ true
 passed true g o weighed fine = refl
-passed false g o weighed fine = let z : ◌≡◌ {A = ℕ} 0 1 = cc in absurd (omega arith)
+passed false g o weighed fine = absurd (cc)
 
 refused : (t : Bool) (g f : LineFault) (o : Result (Unit {0}) LineFault) → o ≡ cond t (Ok tt) (Err g) → o ≡ Err f → (t ≡ false) × (f ≡ g)
-refused true g f o weighed wrong = let z : ◌≡◌ {A = ℕ} 0 1 = cc in absurd (omega arith)
+refused true g f o weighed wrong = absurd (cc)
 refused false g f o weighed wrong = (refl, (cc))
 
 -- a reader at the start of a line

@@ -9,12 +9,11 @@ use Rattle.calls.specs.declared.call.Call.{Call}
 use Rattle.calls.specs.declared.call.Call.TheVariants as call
 use Rattle.script.specs.declared.letter.Letter.{Letter}
 use Rattle.script.specs.declared.letter.Letter.TheVariants as letter
-use Rattle.script.specs.declared.fault.LineFault.{LineFault}
 use Rattle.script.specs.declared.fault.LineCause.{LineCause}
 use Rattle.script.specs.declared.fault.LineCause.TheVariants.{UnknownLetter, NotNumber, WordCount}
 use Rattle.script.specs.Commands.{in_front, first_number, numbers_in, call_of, called, after_letter, from_letter, line_says}
 use Rattle.script.specs.Cuts.{words, joined_by, ended_by, free, all_free}
-use Rattle.script.specs.Faults.{fault_at}
+use Rattle.script.specs.Faults.{fault_at, LineFault}
 use Rattle.script.specs.Letters.{letter_of, numbers_after}
 use Rattle.script.specs.Numbers.{number_of}
 use Rattle.script.specs.Shown.{call_bytes, call_numbers, Small, letter_word, FirstNoNumber, Wrong, Told, ReadsBack}
@@ -26,15 +25,15 @@ use Rattle.script.proofs.Letters.{letter_is, letter_of_byte}
 
 front_ok : (n : ℕ) (r : Result (List ℕ) LineFault) (ns : List ℕ) → in_front n r ≡ Ok ns → (ms : List ℕ) × (r ≡ Ok ms) × (ns ≡ n ∷ ms)
 front_ok n (Ok ms) ns e = (ms, refl, (cc))
-front_ok n (Err f) ns e = let z : ◌≡◌ {A = ℕ} 0 1 = cc in absurd (omega arith)
+front_ok n (Err f) ns e = absurd (cc)
 
 front_err : (n : ℕ) (r : Result (List ℕ) LineFault) (f : LineFault) → in_front n r ≡ Err f → r ≡ Err f
-front_err n (Ok ms) f e = let z : ◌≡◌ {A = ℕ} 0 1 = cc in absurd (omega arith)
+front_err n (Ok ms) f e = absurd (cc)
 front_err n (Err g) f e = e
 
 module _ (w : List ℕ) (ws : List (List ℕ)) (others : Result (List ℕ) LineFault) (more : (ms : List ℕ) → others ≡ Ok ms → Small ms × (ws ≡ map decimal ms)) where
   reads_one : (p : ℕ) (ns : List ℕ) (o : Option ℕ) → number_of w ≡ o → first_number p o others ≡ Ok ns → Small ns × (w ∷ ws ≡ map decimal ns)
-  reads_one p ns None is e = let z : ◌≡◌ {A = ℕ} 0 1 = cc in absurd (omega arith)
+  reads_one p ns None is e = absurd (cc)
   reads_one p ns (Some n) is e =
       let front = front_ok n others ns e in
       let here = number_is_decimal w n is in
@@ -84,7 +83,7 @@ module _ (w : List ℕ) (ws : List (List ℕ)) (p : ℕ) (f : LineFault) (others
       }
 
 stops : (p : ℕ) (ws : List (List ℕ)) (f : LineFault) → numbers_in p ws ≡ Err f → Stops p ws f
-stops p [] f e = let z : ◌≡◌ {A = ℕ} 0 1 = cc in absurd (omega arith)
+stops p [] f e = absurd (cc)
 stops p (w ∷ ws) f e = stops_one w ws p f (numbers_in (p + length w + 1) ws) (λ k. stops (p + length w + 1) ws f k) (number_of w) refl e
 
 -- Calls: the words that a call shows
@@ -192,10 +191,10 @@ reads_back c small =
 
 called_ok : (l : Letter) (r : Result (List ℕ) LineFault) (c : Call) → called l r ≡ Ok c → (ns : List ℕ) × (r ≡ Ok ns) × (call_of l ns ≡ c)
 called_ok l (Ok ns) c e = (ns, refl, (cc))
-called_ok l (Err f) c e = let z : ◌≡◌ {A = ℕ} 0 1 = cc in absurd (omega arith)
+called_ok l (Err f) c e = absurd (cc)
 
 called_err : (l : Letter) (r : Result (List ℕ) LineFault) (f : LineFault) → called l r ≡ Err f → r ≡ Err f
-called_err l (Ok ns) f e = let z : ◌≡◌ {A = ℕ} 0 1 = cc in absurd (omega arith)
+called_err l (Ok ns) f e = absurd (cc)
 called_err l (Err g) f e = let same : g ≡ f = cc in ap Err same
 
 wrong_so : (line : List ℕ) (c : LineCause) (p : ℕ) (f : LineFault) → fault_at p c ≡ f → Wrong line c p → Wrong line f.cause f.place
@@ -249,7 +248,7 @@ module _ (line w : List ℕ) (ws : List (List ℕ)) (l : Letter) (is : words lin
     told_counted (Err f) e = told_no_number f e
 
   told_miscounted : (length ws ≡ numbers_after l → ⊥) → (r : Result Call LineFault) → Err (fault_at (length line) WordCount) ≡ r → Told line r
-  told_miscounted apart (Ok c) e = let z : ◌≡◌ {A = ℕ} 0 1 = cc in absurd (omega arith)
+  told_miscounted apart (Ok c) e = absurd (cc)
   told_miscounted apart (Err f) e =
       let same : fault_at (length line) WordCount ≡ f = cc in
       wrong_so line WordCount (length line) f same (refl, (l, (ws, (lettered, apart))))
@@ -262,7 +261,7 @@ module _ (line w : List ℕ) (ws : List (List ℕ)) (l : Letter) (is : words lin
       (cases_Bool (eqb (length ws) (numbers_after l)))
 
 told_unknown : (line : List ℕ) → ((l : Letter) (ws : List (List ℕ)) → words line ≡ letter_word l ∷ ws → ⊥) → (r : Result Call LineFault) → Err (fault_at 0 UnknownLetter) ≡ r → Told line r
-told_unknown line none (Ok c) e = let z : ◌≡◌ {A = ℕ} 0 1 = cc in absurd (omega arith)
+told_unknown line none (Ok c) e = absurd (cc)
 told_unknown line none (Err f) e =
     let same : fault_at 0 UnknownLetter ≡ f = cc in
     wrong_so line UnknownLetter 0 f same (refl, none)
@@ -273,7 +272,7 @@ told_word line w ws (Some l) is known r e =
     told_lettered line w ws l is known (0 + length w + 1) (omega (arith, ap length (letter_is w l known))) r e
 
 told_words : (line : List ℕ) (ws : List (List ℕ)) → words line ≡ ws → (r : Result Call LineFault) → from_letter (length line) 0 ws ≡ r → Told line r
-told_words line [] is r e = told_unknown line (λ l vs so. let z : ◌≡◌ {A = ℕ} 0 1 = cc in omega arith) r e
+told_words line [] is r e = told_unknown line (λ l vs so. absurd (cc)) r e
 told_words line (w ∷ ws) is r e = told_word line w ws (letter_of w) is refl r e
 
 pub told : (line : List ℕ) (r : Result Call LineFault) → r ≡ line_says line → Told line r

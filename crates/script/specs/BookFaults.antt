@@ -1,7 +1,8 @@
 -- What is printed of the fault of a book file.
-use Rattle.bookfile.specs.Faults.{FileFault, number, inner}
+use Rattle.bookfile.specs.Faults.{FileFault}
 use Rattle.script.specs.declared.listing.Fault.{Fault}
+use Rattle.script.specs.declared.listing.Fault.TheVariants.{File}
 
 -- it is a fault of the whole input, with its place and what caused it
 abbrev pub printed : FileFault → Fault
-printed e = record { line = 0; number = number e.cause; place = e.place; cause = inner e.cause }
+printed e = File e

@@ -4,10 +4,9 @@ use Rattle.calls.specs.declared.call.Call.{Call}
 use Rattle.calls.specs.declared.call.Call.TheVariants as call
 use Rattle.script.specs.declared.letter.Letter.{Letter}
 use Rattle.script.specs.declared.letter.Letter.TheVariants as letter
-use Rattle.script.specs.declared.fault.LineFault.{LineFault}
 use Rattle.script.specs.declared.fault.LineCause.TheVariants.{UnknownLetter, NotNumber, WordCount}
 use Rattle.script.specs.Cuts.{words}
-use Rattle.script.specs.Faults.{fault_at}
+use Rattle.script.specs.Faults.{fault_at, LineFault}
 use Rattle.script.specs.Letters.{letter_of, numbers_after}
 use Rattle.script.specs.Numbers.{number_of}
 

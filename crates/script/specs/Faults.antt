@@ -1,11 +1,13 @@
--- What can be wrong with a turn list. Assumes nothing.
-use Rattle.std.specs.Prelude.{ℕ}
+-- What can be wrong with a turn list, and what is listed of any fault. Assumes nothing.
+use Rattle.std.specs.Prelude.{ℕ, Some, None, Option}
+use Rattle.bookfile.specs.Faults as file
 use Rattle.script.specs.declared.fault.LineCause.{LineCause}
 use Rattle.script.specs.declared.fault.LineCause.TheVariants.{UnknownLetter, NotNumber, WordCount}
-use Rattle.script.specs.declared.fault.LineFault.{LineFault}
+use Rattle.bookfile.specs.declared.fault.Placed.{Placed}
 use Rattle.script.specs.declared.fault.ListFault.{ListFault}
 use Rattle.script.specs.declared.fault.ListFault.TheVariants.{TooLong}
 use Rattle.script.specs.declared.listing.Fault.{Fault}
+use Rattle.script.specs.declared.listing.Fault.TheVariants as fault
 
 -- the numbers that users see
 abbrev pub line_cause_number : LineCause → ℕ
@@ -20,14 +22,41 @@ list_fault_number TooLong = 24
 abbrev pub most_bytes : ℕ
 most_bytes = 60000
 
+-- what is wrong with a line, and at which of its bytes
+abbrev pub LineFault : Type 0
+LineFault = Placed LineCause
+
 -- a fault at a place of its line
 abbrev pub fault_at : ℕ → LineCause → LineFault
 fault_at p c = record { place = p; cause = c }
 
 -- a line's fault with the line's number, as it is listed
 abbrev pub on_line : ℕ → LineFault → Fault
-on_line n f = record { line = n; number = line_cause_number f.cause; place = f.place; cause = 0 }
+on_line n f = fault.Line n f
 
--- a list's fault, as it is listed: it is in no line, and stands where the list should have ended
+-- a list's fault, as it is listed
 abbrev pub in_list : ListFault → Fault
-in_list f = record { line = 0; number = list_fault_number f; place = most_bytes; cause = 0 }
+in_list f = fault.List f
+
+-- the line that a fault is in, unless the whole input is at fault
+abbrev pub faulty_line : Fault → Option ℕ
+faulty_line (fault.File f) = None
+faulty_line (fault.List f) = None
+faulty_line (fault.Line n f) = Some n
+
+abbrev pub fault_number : Fault → ℕ
+fault_number (fault.File f) = file.number f.cause
+fault_number (fault.List f) = list_fault_number f
+fault_number (fault.Line n f) = line_cause_number f.cause
+
+-- a list's fault stands where the list should have ended
+abbrev pub fault_place : Fault → ℕ
+fault_place (fault.File f) = f.place
+fault_place (fault.List TooLong) = most_bytes
+fault_place (fault.Line n f) = f.place
+
+-- the number of what caused a fault, or 0
+abbrev pub fault_cause : Fault → ℕ
+fault_cause (fault.File f) = file.inner f.cause
+fault_cause (fault.List f) = 0
+fault_cause (fault.Line n f) = 0

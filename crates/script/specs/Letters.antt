@@ -1,5 +1,7 @@
 -- The letters of the four commands. Assumes nothing.
-use Rattle.std.specs.Prelude.{ℕ, cond, List, [], ◌∷◌, Some, None, Option, ◌==◌}
+use Rattle.std.specs.Prelude.{◌≡◌, ℕ, cond, List, [], ◌∷◌, Some, None, Ok, Err, Option, Result, ◌==◌}
+use Rattle.script.specs.declared.fault.LineCause.{LineCause}
+use Rattle.script.specs.declared.fault.LineCause.TheVariants.{UnknownLetter}
 use Rattle.script.specs.declared.letter.Letter.{Letter}
 use Rattle.script.specs.declared.letter.Letter.TheVariants.{Start, Step, Withdraw, Look}
 
@@ -20,6 +22,11 @@ abbrev pub letter_of : List ℕ → Option Letter
 letter_of [] = None
 letter_of (b ∷ []) = letter_named b
 letter_of (b ∷ c ∷ bs) = None
+
+-- the letter that a word is, or that it is none
+abbrev pub IsLetter : List ℕ → Result Letter LineCause → Type 0
+IsLetter word (Ok letter) = letter_of word ≡ Some letter
+IsLetter word (Err cause) = (letter_of word ≡ None) × (cause ≡ UnknownLetter)
 
 -- how many numbers follow the letter
 abbrev pub numbers_after : Letter → ℕ

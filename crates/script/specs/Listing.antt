@@ -1,5 +1,5 @@
 -- The bytes of the lines of a listing. Assumes nothing.
-use Rattle.std.specs.Prelude.{ℕ, List, [], ◌∷◌, ◌++◌, Some, codes, decimal, Option}
+use Rattle.std.specs.Prelude.{ℕ, List, [], ◌∷◌, ◌++◌, Some, codes, decimal, Option, unwrap_or}
 use Rattle.std.specs.Option.{option_map}
 use Rattle.calls.specs.declared.answer.Answer.{Answer}
 use Rattle.calls.specs.declared.answer.Answer.TheVariants.{Read, Write, End, Back}
@@ -7,22 +7,24 @@ use Rattle.calls.specs.Refusals.{refusal_number}
 use Rattle.script.specs.declared.listing.Fault.{Fault}
 use Rattle.script.specs.declared.listing.ListingLine.{ListingLine}
 use Rattle.script.specs.declared.listing.ListingLine.TheVariants as sort
+use Rattle.script.specs.Faults.{faulty_line, fault_number, fault_place, fault_cause}
 use Rattle.script.specs.Letters.{letter_byte}
 
 -- a line of the book that was looked at, whose value shows as these bytes
 abbrev pub look_line : ℕ → List ℕ → List ℕ
 look_line line value = codes "L " ++ (decimal line ++ (codes " " ++ (value ++ codes "\n")))
 
--- what was wrong with the input
+-- what was wrong with the input: in which line of it, or 0 for the whole; which fault, where, and its cause
 abbrev pub fault_line : Fault → List ℕ
 fault_line f =
-    codes "! " ++ (decimal f.line ++ (codes " " ++ (decimal f.number ++ (codes " " ++ (decimal f.place ++ (codes " " ++ (decimal f.cause ++ codes "\n")))))))
+    codes "! "
+    ++ (decimal (unwrap_or (faulty_line f) 0) ++ (codes " " ++ (decimal (fault_number f) ++ (codes " " ++ (decimal (fault_place f) ++ (codes " " ++ (decimal (fault_cause f) ++ codes "\n")))))))
 
 -- what a step answered
 abbrev pub answer_bytes : Answer → List ℕ
 answer_bytes (Read line) = codes "read " ++ decimal line
 answer_bytes (Write line) = codes "write " ++ decimal line
-answer_bytes (End code number) = codes "end " ++ (decimal code ++ (codes " " ++ decimal number))
+answer_bytes (End ending) = codes "end " ++ (decimal ending.code ++ (codes " " ++ decimal ending.number))
 answer_bytes (Back kept) = codes "back " ++ decimal kept
 
 -- one line of a listing, of whatever sort, with its newline; `show` says how a looked-at value shows

@@ -4,7 +4,7 @@ use Rattle.std.specs.Borrow.{Bor}
 use Rattle.script.specs.declared.reader.Reader.{Reader}
 use Rattle.script.specs.declared.word.Word.{Word}
 use Rattle.script.specs.Cuts.{words, lines_of}
-use Rattle.script.specs.Words.{word_bytes, IsWord}
+use Rattle.script.specs.Words.{IsWord}
 
 -- all the bytes, read or not
 abbrev pub text : Reader → List ℕ
@@ -43,4 +43,4 @@ NextLine r s (Some line) = (lines_left r ≡ line.now ∷ lines_left s) × Past 
 -- the first word to come with its place, and then the others are
 abbrev pub NextWord : Reader → Reader → Option Word → Type 0
 NextWord r s None = (words_left r ≡ []) × Unmoved r s
-NextWord r s (Some w) = (words_left r ≡ word_bytes w ∷ words_left s) × IsWord (word_bytes w) r.place w × Past r (length (word_bytes w)) s
+NextWord r s (Some w) = (words_left r ≡ w.bytes.now ∷ words_left s) × IsWord w.bytes.now r.place w × Past r (length w.bytes.now) s

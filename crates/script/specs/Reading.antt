@@ -1,10 +1,10 @@
 -- How the words to come make a call. Assumes nothing.
 use Rattle.std.specs.Prelude.{◌≡◌, ℕ, ◌+◌, List, length, Some, Ok, Err, Result}
 use Rattle.script.specs.declared.letter.Letter.{Letter}
-use Rattle.script.specs.declared.fault.LineFault.{LineFault}
 use Rattle.script.specs.declared.reader.Reader.{Reader}
 use Rattle.script.specs.Commands.{in_front, numbers_in, after_letter, from_letter}
 use Rattle.script.specs.Readers.{words_left}
+use Rattle.script.specs.Faults.{LineFault}
 
 -- the words to come, as numbers
 abbrev pub numbers_left : Reader → Result (List ℕ) LineFault

@@ -5,10 +5,10 @@ use Rattle.calls.specs.declared.call.Call.TheVariants.{Start, Step, Withdraw, Lo
 use Rattle.script.specs.declared.letter.Letter.{Letter}
 use Rattle.script.specs.declared.fault.LineCause.{LineCause}
 use Rattle.script.specs.declared.fault.LineCause.TheVariants.{UnknownLetter, NotNumber, WordCount}
-use Rattle.script.specs.declared.fault.LineFault.{LineFault}
 use Rattle.script.specs.Commands.{line_says}
 use Rattle.script.specs.Cuts.{words, ended_by}
 use Rattle.script.specs.Letters.{letter_byte, numbers_after}
+use Rattle.script.specs.Faults.{LineFault}
 
 -- the line of a call, without its newline
 abbrev pub call_bytes : Call → List ℕ

@@ -1,15 +1,13 @@
 -- A turn list as the calls and faults of its lines. Assumes nothing.
-use Rattle.std.specs.Prelude.{◌≡◌, ℕ, ◌+◌, ◌<◌, ◌≤◌, List, [], ◌∷◌, length, Some, None, Ok, Err, Option, Result}
+use Rattle.std.specs.Prelude.{◌≡◌, ℕ, ◌+◌, ◌<◌, ◌≤◌, List, [], ◌∷◌, length, Ok, Err, Result}
 use Rattle.calls.specs.declared.call.Call.{Call}
-use Rattle.script.specs.declared.fault.LineFault.{LineFault}
 use Rattle.script.specs.declared.fault.ListFault.{ListFault}
 use Rattle.script.specs.declared.fault.ListFault.TheVariants.{TooLong}
 use Rattle.script.specs.declared.listing.Fault.{Fault}
-use Rattle.script.specs.declared.list.TurnList.{TurnList}
 use Rattle.script.specs.declared.turns.Turns.{Turns}
 use Rattle.script.specs.Commands.{line_says}
-use Rattle.script.specs.Cuts.{lines_of}
-use Rattle.script.specs.Faults.{most_bytes, on_line}
+use Rattle.script.specs.Cuts.{lines_of, LinesOfBytes}
+use Rattle.script.specs.Faults.{most_bytes, on_line, LineFault}
 use Rattle.script.specs.Readers.{lines_left}
 
 -- a call, or a fault that names its line
@@ -30,12 +28,7 @@ items bytes = items_from 1 (lines_of bytes)
 abbrev pub items_left : Turns → List (Result Call Fault)
 items_left t = items_from (t.lines + 1) (lines_left t.reader)
 
--- a list that is not too long, as it was handed in
-abbrev pub Admitted : List ℕ → Result TurnList ListFault → Type 0
-Admitted bytes (Ok list) = (length bytes ≤ most_bytes) × (list.bytes.now ≡ bytes)
+-- a list that is not too long, none of it read, and whose lines are its bytes
+abbrev pub Admitted : List ℕ → Result Turns ListFault → Type 0
+Admitted bytes (Ok turns) = (length bytes ≤ most_bytes) × (items_left turns ≡ items bytes) × LinesOfBytes bytes (lines_of bytes)
 Admitted bytes (Err f) = (most_bytes < length bytes) × (f ≡ TooLong)
-
--- the first of what is to come, and then the others are
-abbrev pub NextItem : Turns → Turns → Option (Result Call Fault) → Type 0
-NextItem t u None = (items_left t ≡ []) × (items_left u ≡ [])
-NextItem t u (Some item) = items_left t ≡ item ∷ items_left u

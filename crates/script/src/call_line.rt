@@ -3,6 +3,7 @@ ghost use Rattle.std.specs.Prelude.{Some};
 ghost use Rattle.script.specs.Shown.{call_bytes};
 
 use calls::call::Call;
+use calls::order::Order;
 use std::fmt;
 
 // The line that is read as this call, without its newline.
@@ -15,7 +16,7 @@ impl fmt::Display for CallLine {
     fn fmt<W: fmt::Write>(&self, f: &mut fmt::Formatter<W>) -> fmt::Result {
         match self.0 {
             Call::Start { seat, order } => {
-                let (kind, a, b, c, d) = (order.kind, order.a, order.b, order.c, order.d);
+                let Order { kind, a, b, c, d } = order;
                 write!(f, "S {seat} {kind} {a} {b} {c} {d}")
             }
             Call::Step { seat } => write!(f, "T {seat}"),

@@ -1,5 +1,5 @@
 // The call that a line of a turn list is.
-ghost use Rattle.std.specs.Prelude.{◌≡◌, ◌<◌, length};
+ghost use Rattle.std.specs.Prelude.{◌≡◌, ◌<◌, ◌==◌, length, count_by};
 ghost use Rattle.script.specs.Commands.{counted, called, line_says};
 ghost use Rattle.script.specs.Cuts.{words, WordsOfLine};
 ghost use Rattle.script.specs.Letters.{numbers_after};
@@ -10,21 +10,22 @@ ghost use Rattle.script.specs.Shown.{Told, ReadsBack};
 use crate::fault::{LineCause, LineFault};
 use crate::letter::Letter;
 use crate::reader::Reader;
-use crate::word::Word;
+use crate::word::WordKind;
 use calls::call::Call;
 use calls::order::Order;
+
+// How many spaces a line has. Summed, since `filter` and `count` take the bytes one by one and are slower by a tenth.
+fn count_spaces(line: &[u8]) -> usize
+    ensures { result ≡ count_by (λ b. b == 32) line.now }
+{
+    line.iter().map(|byte| usize::from(*byte == b' ')).sum()
+}
 
 // How many words a line has: one more than its spaces.
 fn count_words(line: &[u8]) -> usize
     ensures { result ≡ length (words line.now) }
 {
-    let mut spaces = 0;
-    for byte in line {
-        if *byte == b' ' {
-            spaces += 1;
-        }
-    }
-    spaces + 1
+    count_spaces(line) + 1
 }
 
 // Whether the line has a word for its letter and for each number after it.
@@ -41,11 +42,12 @@ fn check_count(line: &[u8], letter: Letter) -> Result<(), LineFault>
 }
 
 // The letter that the first word is.
+// Kept a match: a word without a letter and no word at all are the same fault.
 fn first_letter(words: &mut Reader) -> Result<Letter, LineFault>
     ensures { FirstLetter words.old words.new result }
 {
-    match words.word() {
-        Some(Word::Letter { letter, .. }) => Ok(letter),
+    match words.word().map(|word| word.kind) {
+        Some(WordKind::Letter(letter)) => Ok(letter),
         _ => Err(LineFault {
             place: 0,
             cause: LineCause::UnknownLetter,
@@ -58,24 +60,28 @@ fn next_number(words: &mut Reader) -> Result<u32, LineFault>
     requires { 0 < length (words_left words.old) }
     ensures { NextNumber words.old words.new result }
 {
-    match words.word() {
-        Some(Word::Number { number, .. }) => Ok(number),
-        Some(Word::Letter { place, .. } | Word::Other { place, .. }) => Err(LineFault {
-            place,
+    // Kept: the words were counted, so that an error here would be one that no line has.
+    let Some(word) = words.word() else {
+        unreachable()
+    };
+    match word.kind {
+        WordKind::Number(number) => Ok(number),
+        WordKind::Letter(_) | WordKind::Other => Err(LineFault {
+            place: word.place,
             cause: LineCause::NotNumber,
         }),
-        None => unreachable(),
     }
 }
 
 // The numbers that the words to come are, as many as there are.
+// Kept a loop: in the closure of `array::try_from_fn` it is not known that a word is left, since each call moves the reader.
 fn numbers<const N: usize>(words: &mut Reader) -> Result<[u32; N], LineFault>
     requires { length (words_left words.old) ≡ N }
     ensures { result ≡ numbers_left words.old }
 {
     let mut all = [0; N];
-    for i in 0..N {
-        all[i] = next_number(words)?;
+    for number in all.iter_mut() {
+        *number = next_number(words)?;
     }
     Ok(all)
 }

@@ -1,10 +1,11 @@
 // The letters that begin a line, one for each command.
 ghost use Rattle.std.specs.Prelude.{◌≡◌, [], ◌∷◌, Some};
-ghost use Rattle.script.specs.Letters.{letter_byte, letter_named, letter_of, numbers_after};
+ghost use Rattle.script.specs.Letters.{letter_byte, numbers_after, IsLetter};
 
+use crate::fault::LineCause;
 use std::fmt;
 
-#[derive(Clone, Copy)]
+#[derive(Clone, Copy, Debug, PartialEq, Eq)]
 pub enum Letter {
     Start,
     Step,
@@ -12,30 +13,24 @@ pub enum Letter {
     Look,
 }
 
-impl Letter {
-    // The letter that a byte is.
-    fn named(byte: u8) -> Option<Letter>
-        ensures { result ≡ letter_named byte }
-    {
-        match char::from(byte) {
-            'S' => Some(Letter::Start),
-            'T' => Some(Letter::Step),
-            'W' => Some(Letter::Withdraw),
-            'L' => Some(Letter::Look),
-            _ => None,
-        }
-    }
+// The letter that a word is, which is then all of the word.
+impl TryFrom<&[u8]> for Letter {
+    type Error = LineCause;
 
-    // The letter that a word is, which is then all of the word.
-    pub(crate) fn of_word(word: &[u8]) -> Option<Letter>
-        ensures { result ≡ letter_of word.now }
-    {
+    ghost try_from_gives = { λ word answer. IsLetter word.now answer };
+
+    fn try_from(word: &[u8]) -> Result<Letter, LineCause> {
         match word {
-            [byte] => Letter::named(*byte),
-            _ => None,
+            [b'S'] => Ok(Letter::Start),
+            [b'T'] => Ok(Letter::Step),
+            [b'W'] => Ok(Letter::Withdraw),
+            [b'L'] => Ok(Letter::Look),
+            _ => Err(LineCause::UnknownLetter),
         }
     }
+}
 
+impl Letter {
     // How many numbers follow the letter.
     pub(crate) fn number_count(self) -> usize
         ensures { result ≡ numbers_after self }

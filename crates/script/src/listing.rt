@@ -1,10 +1,15 @@
 // The lines of a listing. Each shows with its newline.
 ghost use Rattle.std.specs.Option.{option_map};
-ghost use Rattle.std.specs.Prelude.{Some};
+ghost use Rattle.std.specs.Prelude.{◌≡◌, Some};
+ghost use Rattle.script.specs.BookFaults.{printed};
+ghost use Rattle.script.specs.Faults.{in_list, faulty_line, fault_number, fault_place, fault_cause};
 ghost use Rattle.script.specs.Listing.{look_line, fault_line, answer_bytes, listing_line};
 
+use crate::fault::{LineFault, ListFault, MOST_BYTES};
 use crate::letter::Letter;
+use bookfile::fault::FileFault;
 use calls::answer::Answer;
+use calls::ending::Ending;
 use calls::refusal::Refusal;
 use std::fmt;
 
@@ -25,29 +30,91 @@ impl<V: fmt::Display> fmt::Display for LookLine<V> {
     }
 }
 
-// What was wrong with the input: in which line of the turn list, from 1, or 0 for the whole input;
-// the fault's number; its place in bytes; and the number of what caused it, or 0.
+// What was wrong with the input.
 #[derive(Clone, Copy, Debug, PartialEq, Eq)]
-pub struct Fault {
-    pub line: usize,
-    pub number: u32,
-    pub place: usize,
-    pub cause: u32,
+pub enum Fault {
+    // The file of a book is faulty.
+    File(FileFault),
+    // A turn list is faulty as a whole.
+    List(ListFault),
+    // A line of a turn list is faulty. Lines are numbered from 1.
+    Line { line: usize, fault: LineFault },
+}
+
+impl From<FileFault> for Fault {
+    ghost from_gives = { λ fault r. r ≡ printed fault };
+
+    fn from(fault: FileFault) -> Fault {
+        Fault::File(fault)
+    }
+}
+
+impl From<ListFault> for Fault {
+    ghost from_gives = { λ fault r. r ≡ in_list fault };
+
+    fn from(fault: ListFault) -> Fault {
+        Fault::List(fault)
+    }
+}
+
+impl Fault {
+    // The faulty line, unless the whole input is at fault.
+    pub fn line(self) -> Option<usize>
+        ensures { result ≡ faulty_line self }
+    {
+        match self {
+            Fault::File(_) | Fault::List(_) => None,
+            Fault::Line { line, .. } => Some(line),
+        }
+    }
+
+    // The number that users see.
+    pub fn number(self) -> u32
+        ensures { result ≡ fault_number self }
+    {
+        match self {
+            Fault::File(fault) => fault.cause.number(),
+            Fault::List(fault) => fault.number(),
+            Fault::Line { fault, .. } => fault.cause.number(),
+        }
+    }
+
+    // Its place in bytes: in the file, in the list, or in the line.
+    pub fn place(self) -> usize
+        ensures { result ≡ fault_place self }
+    {
+        match self {
+            Fault::File(fault) => fault.place,
+            Fault::List(ListFault::TooLong) => MOST_BYTES,
+            Fault::Line { fault, .. } => fault.place,
+        }
+    }
+
+    // The number of what caused it, or 0 where nothing else did.
+    // Kept a number: it is there to be printed, and so is the cause's own in `bookfile`.
+    pub fn cause(self) -> u32
+        ensures { result ≡ fault_cause self }
+    {
+        match self {
+            Fault::File(fault) => fault.cause.inner(),
+            Fault::List(_) | Fault::Line { .. } => 0,
+        }
+    }
 }
 
 impl fmt::Display for Fault {
     ghost output = { λ f. Some (fault_line f) };
 
     fn fmt<W: fmt::Write>(&self, f: &mut fmt::Formatter<W>) -> fmt::Result {
-        let line = self.line;
-        let number = self.number;
-        let place = self.place;
-        let cause = self.cause;
+        let line = self.line().unwrap_or(0);
+        let number = self.number();
+        let place = self.place();
+        let cause = self.cause();
         write!(f, "! {line} {number} {place} {cause}\n")
     }
 }
 
-// The words of an answer, inside a line.
+// The words of an answer, inside a line. An answer has no text of its own: it is another crate's type.
 #[derive(Clone, Copy)]
 struct AnswerWords(Answer);
 
@@ -58,7 +125,7 @@ impl fmt::Display for AnswerWords {
         match self.0 {
             Answer::Read { line } => write!(f, "read {line}"),
             Answer::Write { line } => write!(f, "write {line}"),
-            Answer::End { code, number } => write!(f, "end {code} {number}"),
+            Answer::End(Ending { code, number }) => write!(f, "end {code} {number}"),
             Answer::Back { kept } => write!(f, "back {kept}"),
         }
     }

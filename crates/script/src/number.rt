@@ -4,20 +4,18 @@ ghost use Rattle.script.specs.Numbers.{number_of, spelt, IsWriting};
 
 const MOST_DIGITS: usize = 10;
 
-const LARGEST: u64 = 4_294_967_295;
-
 // The number that the bytes write, where each is a digit.
+// Kept a loop: the closure of `try_fold` does not know how many digits went before, so that each sum would need a test.
 fn digits_value(word: &[u8]) -> Option<u64>
     requires { length word.now ≤ 10 }
     ensures { result ≡ spelt 0 word.now }
 {
     let mut number: u64 = 0;
     for byte in word {
-        let digit = *byte;
-        if digit < b'0' || digit > b'9' {
+        if !byte.is_ascii_digit() {
             return None;
         }
-        number = number * 10 + (digit - b'0') as u64;
+        number = number * 10 + u64::from(*byte - b'0');
     }
     Some(number)
 }
@@ -26,15 +24,10 @@ fn digits_value(word: &[u8]) -> Option<u64>
 fn checked_value(word: &[u8]) -> Option<u32>
     ensures { result ≡ number_of word.now }
 {
-    if word.is_empty() || word.len() > MOST_DIGITS {
-        return None;
-    }
-    if word[0] == b'0' && word.len() > 1 {
-        return None;
-    }
-    match digits_value(word) {
-        Some(number) if number <= LARGEST => Some(number as u32),
-        _ => None,
+    match word {
+        [] | [b'0', _, ..] => None,
+        _ if word.len() > MOST_DIGITS => None,
+        _ => u32::try_from(digits_value(word)?).ok(),
     }
 }
 

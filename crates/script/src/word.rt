@@ -1,47 +1,33 @@
 // The words of a line, by their kind.
-ghost use Rattle.script.specs.Words.{IsWord};
+ghost use Rattle.script.specs.Words.{SaysWhatItIs};
 
 use crate::letter::Letter;
 use crate::number::number;
 
-// A part of a line, with its place in the line and what it is.
-#[derive(Clone, Copy)]
-pub enum Word<'a> {
-    Letter {
-        bytes: &'a [u8],
-        place: usize,
-        letter: Letter,
-    },
-    Number {
-        bytes: &'a [u8],
-        place: usize,
-        number: u32,
-    },
-    Other {
-        bytes: &'a [u8],
-        place: usize,
-    },
+// What a word is. A number is weighed once.
+#[derive(Clone, Copy, Debug, PartialEq, Eq)]
+pub enum WordKind {
+    Letter(Letter),
+    Number(u32),
+    Other,
 }
 
-impl<'a> Word<'a> {
-    // The word that these bytes are, found at this place.
-    pub(crate) fn new(bytes: &'a [u8], place: usize) -> Word<'a>
-        ensures { IsWord bytes.now place result }
-    {
-        if let Some(letter) = Letter::of_word(bytes) {
-            return Word::Letter {
-                bytes,
-                place,
-                letter,
-            };
+// The kind of a word of these bytes.
+impl From<&[u8]> for WordKind {
+    ghost from_gives = { λ bytes kind. SaysWhatItIs bytes.now kind };
+
+    fn from(bytes: &[u8]) -> WordKind {
+        if let Ok(letter) = Letter::try_from(bytes) {
+            return WordKind::Letter(letter);
         }
-        match number(bytes) {
-            Some(number) => Word::Number {
-                bytes,
-                place,
-                number,
-            },
-            None => Word::Other { bytes, place },
-        }
+        number(bytes).map_or(WordKind::Other, WordKind::Number)
     }
+}
+
+// A part of a line, with its place in the line and what it is.
+#[derive(Clone, Copy)]
+pub struct Word<'a> {
+    pub bytes: &'a [u8],
+    pub place: usize,
+    pub kind: WordKind,
 }

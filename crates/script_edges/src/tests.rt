@@ -1,19 +1,22 @@
+use bookfile::fault::{FileCause, FileFault};
 use calls::answer::Answer;
 use calls::call::Call;
+use calls::ending::Ending;
 use calls::order::Order;
 use calls::refusal::Refusal;
 use script::call_line::CallLine;
 use script::command::call_in;
 use script::letter::Letter;
-use script::list::TurnList;
 use script::listing::{Fault, ListingLine, LookLine};
 use script::number::number;
 use script::reader::Reader;
-use script::word::Word;
+use script::turns::Turns;
+use script::word::WordKind;
 use std::alloc::Global;
 use std::fmt::Write;
 use std::process::Abort;
 use std::test::Fail;
+use survey::fault::ValueFault;
 
 #[test]
 fn numbers(rt: HostRuntime) {
@@ -45,10 +48,11 @@ fn described(heap: Global, line: &[u8]) -> Result<String, Fail> {
     let mut text = String::new(heap);
     let mut words = Reader::new(line);
     while let Some(word) = words.word() {
-        match word {
-            Word::Letter { letter, place, .. } => write!(text, "letter {letter} at {place};")?,
-            Word::Number { number, place, .. } => write!(text, "number {number} at {place};")?,
-            Word::Other { place, .. } => write!(text, "other at {place};")?,
+        let place = word.place;
+        match word.kind {
+            WordKind::Letter(letter) => write!(text, "letter {letter} at {place};")?,
+            WordKind::Number(number) => write!(text, "number {number} at {place};")?,
+            WordKind::Other => write!(text, "other at {place};")?,
         }
     }
     Ok(text)
@@ -182,12 +186,11 @@ fn malformed_lines(rt: HostRuntime) {
 // Each line of a list as it was understood: the call's line again, or the fault.
 fn understood(heap: Global, bytes: &[u8]) -> Result<String, Fail> {
     let mut text = String::new(heap);
-    let list = match TurnList::new(bytes) {
-        Ok(list) => list,
+    let turns = match Turns::try_from(bytes) {
+        Ok(turns) => turns,
         Err(fault) => return Ok(Fault::from(fault).to_string(heap)?),
     };
-    let mut turns = list.turns();
-    while let Some(item) = turns.next() {
+    for item in turns {
         match item {
             Ok(call) => {
                 let line = CallLine(call);
@@ -244,10 +247,10 @@ fn steps_and_refusals(rt: HostRuntime) -> Result<(), Fail> {
         (Answer::Read { line: 63 }, "T 5 read 63\n"),
         (Answer::Write { line: 1 }, "T 5 write 1\n"),
         (
-            Answer::End {
+            Answer::End(Ending {
                 code: 0,
                 number: 4_294_967_295,
-            },
+            }),
             "T 5 end 0 4294967295\n",
         ),
         (Answer::Back { kept: 1 }, "T 5 back 1\n"),
@@ -290,12 +293,10 @@ fn other_listing_lines(rt: HostRuntime) -> Result<(), Fail> {
         line: 1,
         value: "1 2 1 7000",
     };
-    let fault = Fault {
-        line: 0,
-        number: 35,
+    let fault = Fault::from(FileFault {
         place: 12,
-        cause: 13,
-    };
+        cause: FileCause::Value(ValueFault::Passage),
+    });
     shows(
         &rt,
         rt.alloc(),

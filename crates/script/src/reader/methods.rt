@@ -1,10 +1,17 @@
 // Lines of a list and words of a line, one by one.
-ghost use Rattle.std.specs.Prelude.{◌≡◌, ◌+◌, ◌^◌, ◌<◌, ◌≤◌, ◌∷◌, length, drop};
+ghost use Rattle.std.specs.Prelude.{◌≡◌, ◌+◌, ◌^◌, ◌<◌, ◌≤◌, ◌∷◌, ◌==◌, length, drop, position};
 ghost use Rattle.script.specs.Cuts.{front};
 ghost use Rattle.script.specs.Readers.{text, lines_left, words_left, Past, NextLine, NextWord};
 
 use super::Reader;
-use crate::word::Word;
+use crate::word::{Word, WordKind};
+
+// Where the first separator is.
+fn place_of(bytes: &[u8], separator: u8) -> Option<usize>
+    ensures { result ≡ position (λ b. b == separator) bytes.now }
+{
+    bytes.iter().position(|byte| *byte == separator)
+}
 
 // The bytes from a place on, up to the first separator.
 fn up_to(bytes: &[u8], place: usize, separator: u8) -> &[u8]
@@ -12,13 +19,12 @@ fn up_to(bytes: &[u8], place: usize, separator: u8) -> &[u8]
     ensures value { result.now ≡ front separator (drop place bytes.now) }
     ensures within { place + length result.now ≤ length bytes.now }
 {
-    let mut end = place;
-    while end < bytes.len() && bytes[end] != separator {
-        end += 1;
-    }
-    &bytes[place..end]
+    let rest = &bytes[place..];
+    let end = place_of(rest, separator).unwrap_or(rest.len());
+    &rest[..end]
 }
 
+// Kept no iterator: lines and words are read from one place, and an iterator of each would be two more types for one loop.
 impl<'a> Reader<'a> {
     // A reader of all the bytes, from the first on.
     pub fn new(bytes: &'a [u8]) -> Reader<'a>
@@ -36,8 +42,7 @@ impl<'a> Reader<'a> {
         ensures line { separator ≡ 10 → self.old.place < length (text self.old) → lines_left self.old ≡ result.now ∷ lines_left self.new }
         ensures word { separator ≡ 32 → words_left self.old ≡ result.now ∷ words_left self.new }
     {
-        let bytes = self.bytes;
-        let part = up_to(bytes, self.place, separator);
+        let part = up_to(self.bytes, self.place, separator);
         self.place = self.place + part.len() + 1;
         part
     }
@@ -61,6 +66,8 @@ impl<'a> Reader<'a> {
         if place > self.bytes.len() {
             return None;
         }
-        Some(Word::new(self.part(b' '), place))
+        let bytes = self.part(b' ');
+        let kind = WordKind::from(bytes);
+        Some(Word { bytes, place, kind })
     }
 }

@@ -1,5 +1,5 @@
 use Rattle.script.proofs.Decimals.{is_writing}
 use Rattle.script.proofs.number.number.Goals as goal
 
-pub returns : goal.returns
-returns c = record { value = c.checked_value.ensures; writing = is_writing _ _ c.checked_value.ensures }
+pub returns-clause-writing : goal.returns-clause-writing
+returns-clause-writing c = is_writing _ _ c.checked_value.ensures

@@ -1,6 +1,6 @@
-use Rattle.std.proofs.Common.{refl, rules}
+use Rattle.std.proofs.Common.{refl}
 use Rattle.script.proofs.Parts.{no_line}
 use Rattle.script.proofs.reader.Reader.line.Goals as goal
 
-pub returns-then-self : goal.returns-then-self
-returns-then-self c = record { next = (no_line c.args.self.now.bytes.now c.args.self.now.place c.if-self.true, (refl, refl)); bound = search rules }
+pub returns-then-self-clause-next : goal.returns-then-self-clause-next
+returns-then-self-clause-next c = (no_line c.args.self.now.bytes.now c.args.self.now.place c.if-self.true, (refl, refl))

@@ -1,15 +1,15 @@
-use Rattle.std.proofs.Common.{refl, ap, ◌∙◌, rules}
+use Rattle.std.proofs.Common.{refl, ap, ◌∙◌}
 use Rattle.script.specs.Cuts.{front}
 use Rattle.script.specs.Readers.{left}
 use Rattle.script.proofs.Parts.{next_line, next_word}
 use Rattle.script.proofs.reader.Reader.part.Goals as goal
 
-pub returns : goal.returns
-returns c =
-    let part = c.up_to-part.ensures.value in
-    record {
-      past = record { place = refl; same = refl };
-      bound = search rules;
-      line = λ is inside. next_line c.args.self.now.bytes.now c.up_to-part.result.now c.args.self.now.place _ refl (part ∙ ap (λ s. front s (left c.args.self.now)) is) inside;
-      word = λ is. next_word c.args.self.now.bytes.now c.up_to-part.result.now c.args.self.now.place _ refl (part ∙ ap (λ s. front s (left c.args.self.now)) is) c.requires;
-    }
+pub returns-clause-line : goal.returns-clause-line
+returns-clause-line c is inside =
+    let reader = c.args.self.now in
+    next_line reader.bytes.now c.up_to-part.result.now reader.place _ refl (c.up_to-part.ensures.value ∙ ap (λ s. front s (left reader)) is) inside
+
+pub returns-clause-word : goal.returns-clause-word
+returns-clause-word c is =
+    let reader = c.args.self.now in
+    next_word reader.bytes.now c.up_to-part.result.now reader.place _ refl (c.up_to-part.ensures.value ∙ ap (λ s. front s (left reader)) is) c.requires
