@@ -133,8 +133,8 @@ module _ {V : Type 0} (n k : ℕ) (xs ys : List V) (i : ℕ) (v : V) (short : k 
   lines_written (Err e) w = (subst (λ l. length l ≤ i) front w.0, w.1, ap (take n) (places_written (Err e) w))
 
 -- the next of the lines that an iterator has left
-pub row_given : {V : Type 0} (xs : List V) (i : ℕ) (r : Result V BookRefusal) (o : Option V) → i < length xs → Reads xs i r → o ≡ result_ok r
-    → MatchOption o ((drop i xs ≡ []) × (drop (i + 1) xs ≡ [])) (λ x. drop i xs ≡ x ∷ drop (i + 1) xs)
-row_given xs i (Ok v) o h q e =
-    rw e (drop_more xs i v h ∙ ap (λ x. x ∷ drop (i + 1) xs) (get_or_from_slice_get xs i v v q.1))
-row_given xs i (Err e) o h q a = let past = q.0 in absurd (omega arith)
+pub row_given : {V : Type 0} (xs : List V) (i k next : ℕ) (r : Result V BookRefusal) (o : Option V) → i < length xs → k ≡ i → next ≡ i + 1 → Reads xs k r → o ≡ result_ok r
+    → MatchOption o ((drop i xs ≡ []) × (drop next xs ≡ [])) (λ x. drop i xs ≡ x ∷ drop next xs)
+row_given xs i k next (Ok v) o h same on q e =
+    rw (e, on, ← same) (drop_more xs k v q.0 ∙ ap (λ x. x ∷ drop (k + 1) xs) (get_or_from_slice_get xs k v v q.1))
+row_given xs i k next (Err e) o h same on q a = let past = q.0 in absurd (omega arith)

@@ -5,4 +5,5 @@ use Rattle.book.proofs.rows.RowsIterator.next.Goals as goal
 pub returns-clause-steps : goal.returns-clause-steps
 returns-clause-steps g c =
     let rows = c.args.self.now in
-    row_given (g.B.Book.lines rows.book.now) rows.next c.read.result c.ok-row.result (omega arith) c.read.ensures c.ok-row.ensures.value
+    let (_, (some, line, on)) = c.in_ok-line.ensures.steps in
+    row_given (g.B.Book.lines rows.book.now) rows.numbers.start c.in_ok-line.line c.next.new.self.start c.read.result c.ok.result (omega arith) line on c.read.ensures c.ok.ensures.value
