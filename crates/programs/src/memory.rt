@@ -1,9 +1,10 @@
 // Want of memory, the one thing that stops a program between reading and printing.
 use std::alloc::{AllocError, AllocFailed};
-use std::error::Error;
 use std::fmt;
+use thiserror::Error;
 
-#[derive(Clone, Copy, Debug, PartialEq, Eq)]
+#[derive(Clone, Copy, Debug, PartialEq, Eq, Error)]
+#[error("there is not enough memory")]
 pub struct NoMemory;
 
 impl From<AllocError> for NoMemory {
@@ -23,11 +24,3 @@ impl From<fmt::Error> for NoMemory {
         NoMemory
     }
 }
-
-impl fmt::Display for NoMemory {
-    fn fmt<W: fmt::Write>(&self, f: &mut fmt::Formatter<W>) -> fmt::Result {
-        write!(f, "there is not enough memory")
-    }
-}
-
-impl Error for NoMemory {}
