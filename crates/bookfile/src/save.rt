@@ -20,7 +20,7 @@ pub enum SaveRefusal {
 }
 
 impl SaveRefusal {
-    // The number by which the refusal is printed.
+    // The number by which the refusal is printed. Kept a method: `From` would read as if the number were the refusal.
     pub fn number(self) -> u32
         ensures { result ≡ save_number self }
     {

@@ -7,6 +7,7 @@ use thiserror::Error;
 #[error("there is not enough memory")]
 pub struct NoMemory;
 
+// kept: the three conversions are written by hand, since a derived one keeps what it was made of, and want of memory is one thing.
 impl From<AllocError> for NoMemory {
     fn from(_e: AllocError) -> NoMemory {
         NoMemory
