@@ -1,7 +1,7 @@
 // The check of a whole book file, before anything is written.
 ghost use Rattle.std.specs.Prelude.{◌≡◌, ℕ, ◌<◌, ◌≤◌, length, IfOk};
 ghost use Rattle.bookfile.specs.Meanings.{Exactly};
-ghost use Rattle.bookfile.specs.Files.{pair_count, pair_fault, pairs_fault, file_fault, stated_lines, Tells, TellsCause};
+ghost use Rattle.bookfile.specs.Files.{pair_fault, pairs_fault, file_fault, stated_lines, Tells, TellsCause};
 
 use crate::fault::{FileCause, FileFault, located};
 use crate::pairs::Pairs;
@@ -30,8 +30,8 @@ fn check_row<R: Row>(row: R) -> Result<(), FileCause>
 impl<'a, R: Row> Pairs<'a, R> {
     // Whether a pair names a line below `lines` and holds a value.
     fn check_pair(&self, lines: usize, pair: usize) -> Result<(), FileFault>
-        requires { pair < pair_count self.now.bytes.now }
-        ensures { Tells (pair_fault R.Row.format lines (pair_count self.now.bytes.now) self.now.bytes.now pair) result }
+        requires { pair < self.now.count }
+        ensures { Tells (pair_fault R.Row.format lines self.now.count self.now.bytes.now pair) result }
     {
         if self.line(pair) >= lines {
             let place = self.line_place(pair);
@@ -43,7 +43,7 @@ impl<'a, R: Row> Pairs<'a, R> {
 
     // Whether each pair does.
     fn check(&self, lines: usize) -> Result<(), FileFault>
-        ensures { Tells (pairs_fault R.Row.format lines (pair_count self.now.bytes.now) self.now.bytes.now 0 (pair_count self.now.bytes.now)) result }
+        ensures { Tells (pairs_fault R.Row.format lines self.now.count self.now.bytes.now 0 self.now.count) result }
     {
         for pair in 0..self.count() {
             self.check_pair(lines, pair)?;

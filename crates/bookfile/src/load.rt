@@ -1,6 +1,6 @@
 // Loads a book file into a book.
 ghost use Rattle.std.specs.Prelude.{◌≡◌, ◌<◌, length, slice_set};
-ghost use Rattle.bookfile.specs.Files.{pair_count, line_of, row_of};
+ghost use Rattle.bookfile.specs.Files.{line_of, row_of};
 ghost use Rattle.bookfile.specs.Loads.{loaded, Loads};
 ghost use Rattle.bookfile.specs.Meanings.{Exactly};
 
@@ -13,15 +13,15 @@ use survey::row::Row;
 impl<'a, R: Row> Pairs<'a, R> {
     // Writes one pair to its line, where the book has that line.
     fn load_pair<B: Book<Value = R>>(&self, pair: usize, book: &mut B)
-        requires { pair < pair_count self.now.bytes.now }
-        ensures { B.Book.lines book.new ≡ slice_set (B.Book.lines book.old) (line_of self.now.bytes.now pair) (row_of R.Row.format (pair_count self.now.bytes.now) self.now.bytes.now pair) }
+        requires { pair < self.now.count }
+        ensures { B.Book.lines book.new ≡ slice_set (B.Book.lines book.old) (line_of self.now.bytes.now pair) (row_of R.Row.format self.now.count self.now.bytes.now pair) }
     {
         let _ = book.write(self.line(pair), self.row(pair));
     }
 
     // Writes each pair, in order.
     fn load<B: Book<Value = R>>(&self, book: &mut B)
-        ensures { B.Book.lines book.new ≡ loaded R.Row.format (pair_count self.now.bytes.now) self.now.bytes.now 0 (pair_count self.now.bytes.now) (B.Book.lines book.old) }
+        ensures { B.Book.lines book.new ≡ loaded R.Row.format self.now.count self.now.bytes.now 0 self.now.count (B.Book.lines book.old) }
     {
         for pair in 0..self.count() {
             self.load_pair(pair, book);

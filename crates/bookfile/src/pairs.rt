@@ -70,14 +70,14 @@ impl<'a, R: Row> Pairs<'a, R> {
 
     // How many pairs there are.
     pub(crate) fn count(&self) -> usize
-        ensures { result ≡ pair_count self.now.bytes.now }
+        ensures { result ≡ self.now.count }
     {
         self.count
     }
 
     // The place of the line number of a pair.
     pub(crate) fn line_place(&self, pair: usize) -> usize
-        requires { pair < pair_count self.now.bytes.now }
+        requires { pair < self.now.count }
         ensures value { result ≡ line_place pair }
         ensures within { result + 2 ≤ length self.now.bytes.now }
     {
@@ -86,8 +86,8 @@ impl<'a, R: Row> Pairs<'a, R> {
 
     // The place of the value of a pair.
     pub(crate) fn value_place(&self, pair: usize) -> usize
-        requires { pair < pair_count self.now.bytes.now }
-        ensures value { result ≡ value_place R.Row.format (pair_count self.now.bytes.now) pair }
+        requires { pair < self.now.count }
+        ensures value { result ≡ value_place R.Row.format self.now.count pair }
         ensures within { result + R.Row.format.width ≤ length self.now.bytes.now }
     {
         HEAD + 2 * self.count + R::WIDTH * pair
@@ -95,7 +95,7 @@ impl<'a, R: Row> Pairs<'a, R> {
 
     // The line of a pair.
     pub(crate) fn line(&self, pair: usize) -> usize
-        requires { pair < pair_count self.now.bytes.now }
+        requires { pair < self.now.count }
         ensures { result ≡ line_of self.now.bytes.now pair }
     {
         two_at(self.bytes, self.line_place(pair))
@@ -103,8 +103,8 @@ impl<'a, R: Row> Pairs<'a, R> {
 
     // The row of a pair.
     pub(crate) fn row(&self, pair: usize) -> R
-        requires { pair < pair_count self.now.bytes.now }
-        ensures { result ≡ row_of R.Row.format (pair_count self.now.bytes.now) self.now.bytes.now pair }
+        requires { pair < self.now.count }
+        ensures { result ≡ row_of R.Row.format self.now.count self.now.bytes.now pair }
     {
         let (_, bytes) = self.bytes.split_at(self.value_place(pair));
         let (row, _) = R::decode(bytes).unwrap();

@@ -1,5 +1,4 @@
 use Rattle.std.proofs.Common.{◌≡◌, ◌-◌}
-use Rattle.bookfile.specs.Files.{pair_count}
 use Rattle.bookfile.specs.Loads.{loaded}
 use Rattle.bookfile.proofs.pairs.Pairs.load.Given as goal
 
@@ -7,5 +6,5 @@ use Rattle.bookfile.proofs.pairs.Pairs.load.Given as goal
 abbrev pub invariant-loop-pair : goal.invariant-loop-pair
 invariant-loop-pair g l =
     let bs = l.self.bytes.now in
-    let m = pair_count bs in
+    let m = l.self.count in
     loaded g.R.Row.format m bs l.pair (m - l.pair) (g.B.Book.lines l.book) ≡ loaded g.R.Row.format m bs 0 m (g.B.Book.lines l.initial.book)
