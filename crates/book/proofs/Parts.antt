@@ -1,10 +1,16 @@
 -- Parts of a list: their elements, and what a write to one leaves of the whole.
-use Rattle.std.proofs.Common.{◌≡◌, ℕ, zero, suc, ◌+◌, ◌-◌, ◌<◌, ◌≤◌, min, List, [], ◌∷◌, length, take, drop, set, Some, Ok, Err, Option, Result, sym, refl, ap, ◌∙◌, subst, suc-add, zero-add, arith}
+use Rattle.std.proofs.Common.{◌≡◌, ℕ, zero, suc, ◌+◌, ◌-◌, ◌<◌, ◌≤◌, min, List, [], ◌∷◌, ◌++◌, length, take, drop, set, Some, None, Ok, Err, Option, Result, sym, refl, ap, ◌∙◌, subst, suc-add, zero-add, arith}
+use Rattle.std.specs.Borrow.{Bor}
 use Rattle.std.specs.List.{slice_get}
-use Rattle.std.proofs.lemmas.List.{length-take, length-drop, drop-set-add}
+use Rattle.std.specs.Option.{ok_or, option_copied, MatchOption}
+use Rattle.std.specs.Result.{result_ok}
+use Rattle.std.specs.Slice.{IsItemAt}
+use Rattle.std.proofs.lemmas.List.{length-take, length-drop, drop-set-add, take_min, take-append-drop, set-append_left, drop_more}
+use Rattle.std.proofs.lemmas.Option.{slice_get_read, get_or_from_slice_get}
 use Rattle.book.specs.declared.refusal.BookRefusal.{BookRefusal}
+use Rattle.book.specs.declared.refusal.BookRefusal.TheVariants.{NoLine}
 use Rattle.book.specs.Books.{Reads, Writes}
-use Rattle.book.specs.Chapters.{part, IsPart, IsLine, WrittenBelow}
+use Rattle.book.specs.Chapters.{part, IsLine, WrittenBelow}
 
 pub nth_take : {V : Type 0} (n : ℕ) (xs : List V) (i : ℕ) → i < n → slice_get (take n xs) i ≡ slice_get xs i
 nth_take zero xs i h = absurd (omega arith)
@@ -60,9 +66,6 @@ module _ {V : Type 0} (a c : ℕ) (xs : List V) where
         ((h, ap (part a c) w ∙ part-set i v), w)
     part_writes v ys (Err e) q = let w = part_within i h in let b = begins in let past = q.0 in absurd (omega arith)
 
-  pub is_part : IsPart a c xs (part a c xs)
-  is_part = record { size = part_size; line = λ i h. part_line i h ∙ ap (slice_get xs) (sym (begins (min a (length xs)) i refl h)) }
-
   pub is_line : (start i : ℕ) → start ≡ min a (length xs) → i < length (part a c xs) → IsLine a c xs i (start + i)
   is_line start i s h =
       record {
@@ -104,3 +107,34 @@ module _ {V : Type 0} (a c f k start n m : ℕ) (xs : List V) (s : start ≡ min
       let u = part_within a c xs (f + i) w.1 in
       part_line (start + m) (min k (n - m)) xs i h
       ∙ (ap (slice_get xs) (omega arith) ∙ (sym (part_line a c xs (f + i) w.1) ∙ sym (part_line f k (part a c xs) i v))))
+
+-- what a look-up, copied out, answers of the lines
+pub reads_looked_up : {V : Type 0} (xs : List V) (i : ℕ) (o : Option (Bor V)) (r : Result V BookRefusal) → IsItemAt xs i o → r ≡ ok_or (option_copied o) NoLine → Reads xs i r
+reads_looked_up xs i None r h e = subst (Reads xs i) (sym e) (h.3, refl)
+reads_looked_up xs i (Some x) r h e = subst (Reads xs i) (sym e) (h.3.0, slice_get_read xs (length xs) i x.now refl h.3.0 h.1)
+
+-- a write to the first n places, seen on all of them
+module _ {V : Type 0} (n k : ℕ) (xs ys : List V) (i : ℕ) (v : V) (short : k ≡ min n (length xs)) where
+  front : take k xs ≡ take n xs
+  front = ap (λ m. take m xs) short ∙ take_min n xs
+
+  written : i < length (take k xs) → ys ≡ set (take k xs) i v → ys ++ drop k xs ≡ set xs i v
+  written h e =
+      ap (λ l. l ++ drop k xs) e
+      ∙ (sym (set-append_left (take k xs) (drop k xs) i v h) ∙ ap (λ l. set l i v) (take-append-drop k xs))
+
+  pub places_written : (r : Result (Unit {0}) BookRefusal) → Writes (take k xs) i v ys r → WrittenBelow 0 xs i v (ys ++ drop k xs) r
+  places_written (Ok u) w = written w.0 w.1 ∙ ap (λ j. set xs j v) (sym (zero-add i))
+  places_written (Err e) w = ap (λ l. l ++ drop k xs) w.2 ∙ take-append-drop k xs
+
+  pub lines_written : (r : Result (Unit {0}) BookRefusal) → Writes (take k xs) i v ys r → Writes (take n xs) i v (take n (ys ++ drop k xs)) r
+  lines_written (Ok u) w =
+      (subst (λ l. i < length l) front w.0, ap (take n) (written w.0 w.1) ∙ take-set-any n xs i v)
+  lines_written (Err e) w = (subst (λ l. length l ≤ i) front w.0, w.1, ap (take n) (places_written (Err e) w))
+
+-- the next of the lines that an iterator has left
+pub row_given : {V : Type 0} (xs : List V) (i k next : ℕ) (r : Result V BookRefusal) (o : Option V) → i < length xs → k ≡ i → next ≡ i + 1 → Reads xs k r → o ≡ result_ok r
+    → MatchOption o ((drop i xs ≡ []) × (drop next xs ≡ [])) (λ x. drop i xs ≡ x ∷ drop next xs)
+row_given xs i k next (Ok v) o h same on q e =
+    rw (e, on, ← same) (drop_more xs k v q.0 ∙ ap (λ x. x ∷ drop (k + 1) xs) (get_or_from_slice_get xs k v v q.1))
+row_given xs i k next (Err e) o h same on q a = let past = q.0 in absurd (omega arith)

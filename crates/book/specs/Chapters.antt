@@ -1,12 +1,18 @@
--- A part of a list, and what a write to it is below.
-use Rattle.std.specs.Prelude.{◌≡◌, ℕ, ◌+◌, ◌-◌, ◌<◌, ◌≤◌, min, List, length, take, drop, Some, None, Ok, Err, Option, Result, slice_set}
+-- A part of a list, the lines of a chapter, and what a write to it is below.
+use Rattle.std.specs.Prelude.{◌≡◌, ℕ, ◌+◌, ◌-◌, ◌<◌, ◌≤◌, min, List, length, take, drop, Ok, Err, Result, slice_set}
 use Rattle.std.specs.List.{slice_get}
 use Rattle.book.specs.declared.refusal.BookRefusal.{BookRefusal}
+use Rattle.book.specs.declared.refusal.BookRefusal.TheVariants.{NoLine}
+use Rattle.book.specs.declared.chapter.Chapter.{Chapter}
 use Rattle.book.specs.Books.{Reads, Writes}
 
 -- at most c elements, from place a on
 abbrev pub part : {V : Type 0} → ℕ → ℕ → List V → List V
 part a c xs = take c (drop a xs)
+
+-- the lines of a chapter, where `below` gives those of the book below
+abbrev pub lines_of : {B V : Type 0} → (B → List V) → Chapter B → List V
+lines_of below chapter = part chapter.first chapter.count (below chapter.below)
 
 -- ys begins at min a n of the n elements of xs, has min c (n - min a n) of them, and its element i is that at min a n + i
 pub record IsPart {V : Type 0} (a c : ℕ) (xs ys : List V) : Type 0 where
@@ -25,7 +31,7 @@ pub record IsLine {V : Type 0} (a c : ℕ) (xs : List V) (l k : ℕ) : Type 0 wh
   pub writes : (v : V) (ys : List V) (r : Result (Unit {0}) BookRefusal) → Writes xs k v ys r → Writes (part a c xs) l v (part a c ys) r
   pub below : (v : V) (ys : List V) (r : Result (Unit {0}) BookRefusal) → Writes xs k v ys r → WrittenBelow a xs l v ys r
 
--- the line below that line l of the part is, or none where the part lacks it
-abbrev pub FindsBelow : {V : Type 0} → ℕ → ℕ → List V → ℕ → Option ℕ → Type 0
-FindsBelow a c xs l (Some k) = IsLine a c xs l k
-FindsBelow a c xs l None = length (part a c xs) ≤ l
+-- the line below that line l of the part is, or the refusal of a line that the part lacks
+abbrev pub FindsBelow : {V : Type 0} → ℕ → ℕ → List V → ℕ → Result ℕ BookRefusal → Type 0
+FindsBelow a c xs l (Ok k) = IsLine a c xs l k
+FindsBelow a c xs l (Err e) = (length (part a c xs) ≤ l) × (e ≡ NoLine)

@@ -1,3 +1,4 @@
 pub mod Refusals
 pub mod Books
 pub mod Chapters
+pub mod Rows

@@ -1,7 +1,7 @@
 // A part of a book, itself a book.
 ghost use Rattle.std.specs.Prelude.{◌≡◌, ◌+◌, ◌≤◌, min, length};
 ghost use Rattle.book.specs.Books.{Writes};
-ghost use Rattle.book.specs.Chapters.{part, WrittenBelow, IsPart, FindsBelow};
+ghost use Rattle.book.specs.Chapters.{part, lines_of, WrittenBelow, IsPart, FindsBelow};
 
 use crate::book::Book;
 use crate::refusal::BookRefusal;
@@ -12,6 +12,13 @@ pub struct Chapter<B> {
     below: B,
     first: usize,
     count: usize,
+}
+
+// The line below on which some lines begin, and how many they are.
+#[derive(Clone, Copy)]
+struct Extent {
+    start: usize,
+    size: usize,
 }
 
 impl<B: Book> Chapter<B> {
@@ -29,57 +36,59 @@ impl<B: Book> Chapter<B> {
     pub fn into_below(self) -> B
         ensures { result ≡ self.below }
     {
-        let Chapter {
-            below,
-            first: _,
-            count: _,
-        } = self;
+        let Chapter { below, .. } = self;
         below
     }
 
     // A chapter of this chapter, as a chapter of the book below.
     pub fn narrow(self, first: usize, count: usize) -> Chapter<B>
         ensures below { result.below ≡ self.below }
-        ensures lines { part result.first result.count (B.lines self.below) ≡ part first count (part self.first self.count (B.lines self.below)) }
+        ensures lines { lines_of B.lines result ≡ part first count (lines_of B.lines self) }
     {
-        let (first, count) = self.part_extent(first, count);
+        let inner = self.part_extent(first, count);
         Chapter {
             below: self.into_below(),
-            first,
-            count,
+            first: inner.start,
+            count: inner.size,
         }
     }
 
-    // The line below on which the chapter begins, and how many lines it has.
-    fn extent(&self) -> (usize, usize)
-        ensures start { result.0 ≡ min self.now.first (length (B.lines self.now.below)) }
-        ensures size { result.1 ≡ length (part self.now.first self.now.count (B.lines self.now.below)) }
-        ensures bound { result.0 + result.1 ≤ 1024 }
-        ensures part { IsPart self.now.first self.now.count (B.lines self.now.below) (part self.now.first self.now.count (B.lines self.now.below)) }
+    // Where the chapter lies in the book below.
+    fn extent(&self) -> Extent
+        ensures start { result.start ≡ min self.now.first (length (B.lines self.now.below)) }
+        ensures size { result.size ≡ length (lines_of B.lines self.now) }
+        ensures bound { result.start + result.size ≤ 1024 }
+        ensures part { IsPart self.now.first self.now.count (B.lines self.now.below) (lines_of B.lines self.now) }
     {
         let size = self.below.size();
         let start = self.first.min(size);
-        (start, self.count.min(size - start))
+        Extent {
+            start,
+            size: self.count.min(size - start),
+        }
     }
 
-    // The first line and the count below of a part of this chapter.
-    fn part_extent(&self, first: usize, count: usize) -> (usize, usize)
-        ensures { part result.0 result.1 (B.lines self.now.below) ≡ part first count (part self.now.first self.now.count (B.lines self.now.below)) }
+    // Where a part of the chapter lies in the book below.
+    fn part_extent(&self, first: usize, count: usize) -> Extent
+        ensures { part result.start result.size (B.lines self.now.below) ≡ part first count (lines_of B.lines self.now) }
     {
-        let (start, size) = self.extent();
+        let Extent { start, size } = self.extent();
         let skipped = first.min(size);
-        (start + skipped, count.min(size - skipped))
+        Extent {
+            start: start + skipped,
+            size: count.min(size - skipped),
+        }
     }
 
-    // The line below that a line of the chapter is, where it has that line.
-    fn line_below(&self, line: usize) -> Option<usize>
+    // The line below that a line of the chapter is.
+    fn line_below(&self, line: usize) -> Result<usize, BookRefusal>
         ensures { FindsBelow self.now.first self.now.count (B.lines self.now.below) line result }
     {
-        let (start, size) = self.extent();
+        let Extent { start, size } = self.extent();
         if line < size {
-            Some(start + line)
+            Ok(start + line)
         } else {
-            None
+            Err(BookRefusal::NoLine)
         }
     }
 }
@@ -87,32 +96,27 @@ impl<B: Book> Chapter<B> {
 impl<B: Book> Book for Chapter<B> {
     type Value = B::Value;
 
-    ghost lines = { λ s. part s.first s.count (B.Book.lines s.below) };
+    ghost lines = { lines_of B.Book.lines };
 
     fn size(&self) -> usize
-        ensures value { result ≡ length (part self.now.first self.now.count (B.Book.lines self.now.below)) }
+        ensures value { result ≡ length (lines_of B.Book.lines self.now) }
         ensures bound { result ≤ 1024 }
-        ensures part { IsPart self.now.first self.now.count (B.Book.lines self.now.below) (part self.now.first self.now.count (B.Book.lines self.now.below)) }
+        ensures part { IsPart self.now.first self.now.count (B.Book.lines self.now.below) (lines_of B.Book.lines self.now) }
     {
-        let (_, size) = self.extent();
-        size
+        self.extent().size
     }
 
     fn read(&self, line: usize) -> Result<B::Value, BookRefusal> {
-        match self.line_below(line) {
-            Some(below) => self.below.read(below),
-            None => Err(BookRefusal::NoLine),
-        }
+        let below = self.line_below(line)?;
+        self.below.read(below)
     }
 
     fn write(&mut self, line: usize, value: B::Value) -> Result<(), BookRefusal>
-        ensures lines { Writes (part self.old.first self.old.count (B.Book.lines self.old.below)) line value (part self.new.first self.new.count (B.Book.lines self.new.below)) result }
+        ensures lines { Writes (lines_of B.Book.lines self.old) line value (lines_of B.Book.lines self.new) result }
         ensures below { WrittenBelow self.old.first (B.Book.lines self.old.below) line value (B.Book.lines self.new.below) result }
         ensures extent { (self.new.first ≡ self.old.first) × (self.new.count ≡ self.old.count) }
     {
-        match self.line_below(line) {
-            Some(below) => self.below.write(below, value),
-            None => Err(BookRefusal::NoLine),
-        }
+        let below = self.line_below(line)?;
+        self.below.write(below, value)
     }
 }

@@ -1,6 +1,6 @@
 // A book over lent memory of values.
-ghost use Rattle.std.specs.Prelude.{◌≡◌, ◌<◌, ◌≤◌, length, take, slice_set};
-ghost use Rattle.book.specs.Books.{Reads, Writes};
+ghost use Rattle.std.specs.Prelude.{◌≡◌, ◌≤◌, length, take};
+ghost use Rattle.book.specs.Books.{Writes};
 ghost use Rattle.book.specs.Chapters.{WrittenBelow};
 
 use crate::book::{Book, MOST_LINES};
@@ -21,42 +21,32 @@ impl<'a, V: Copy> FlatBook<'a, V> {
     }
 }
 
-// How many places of the memory are lines.
-fn line_count<V: Copy>(memory: &[V]) -> usize
-    ensures value { result ≡ length (take 1024 memory.now) }
-    ensures bound { result ≤ 1024 }
-    ensures within { result ≤ length memory.now }
+// The places of the memory that are lines.
+fn line_places<V: Copy>(memory: &[V]) -> &[V]
+    ensures value { result.now ≡ take 1024 memory.now }
+    ensures bound { length result.now ≤ 1024 }
 {
-    memory.len().min(MOST_LINES)
+    &memory[..MOST_LINES.min(memory.len())]
 }
 
-fn read_line<V: Copy>(memory: &[V], line: usize) -> Result<V, BookRefusal>
-    ensures { Reads (take 1024 memory.now) line result }
+// Gives one place a new value, where the memory has it.
+fn put<V: Copy>(memory: &mut [V], place: usize, value: V) -> Result<(), BookRefusal>
+    ensures { Writes memory.old place value memory.new result }
 {
-    if line < line_count(memory) {
-        Ok(memory[line])
-    } else {
-        Err(BookRefusal::NoLine)
+    // kept: std's `get_mut` says nothing of what the memory holds after a write through what it gives.
+    if place >= memory.len() {
+        return Err(BookRefusal::NoLine);
     }
-}
-
-fn put_at<V: Copy>(memory: &mut [V], place: usize, value: V)
-    requires { place < length memory.old }
-    ensures { memory.new ≡ slice_set memory.old place value }
-{
     memory[place] = value;
+    Ok(())
 }
 
 fn write_line<V: Copy>(memory: &mut [V], line: usize, value: V) -> Result<(), BookRefusal>
     ensures lines { Writes (take 1024 memory.old) line value (take 1024 memory.new) result }
     ensures places { WrittenBelow 0 memory.old line value memory.new result }
 {
-    if line < line_count(memory) {
-        put_at(memory, line, value);
-        Ok(())
-    } else {
-        Err(BookRefusal::NoLine)
-    }
+    let lines = MOST_LINES.min(memory.len());
+    put(&mut memory[..lines], line, value)
 }
 
 impl<'a, V: Copy> Book for FlatBook<'a, V> {
@@ -65,11 +55,14 @@ impl<'a, V: Copy> Book for FlatBook<'a, V> {
     ghost lines = { λ b. take 1024 b.memory.now };
 
     fn size(&self) -> usize {
-        line_count(self.memory)
+        line_places(self.memory).len()
     }
 
     fn read(&self, line: usize) -> Result<V, BookRefusal> {
-        read_line(self.memory, line)
+        line_places(self.memory)
+            .get(line)
+            .copied()
+            .ok_or(BookRefusal::NoLine)
     }
 
     fn write(&mut self, line: usize, value: V) -> Result<(), BookRefusal>

@@ -9,7 +9,7 @@ use Rattle.bookfile.specs.declared.fault.FileCause.TheVariants.{Short, Lines, Pa
 use Rattle.bookfile.specs.Faults.{FileFault}
 use Rattle.bookfile.specs.Files.{line_count, pair_count, line_place, line_of, value_place, row_of, file_size, fault_where, value_fault, first_of, pair_fault, pairs_fault, head_fault, file_fault}
 use Rattle.bookfile.specs.Meanings.{RightHead, RightPair, RightBefore, RightFile, Comes, Exactly}
-use Rattle.bookfile.proofs.Pairs.{from, pairs_on, pairs_stop, pairs_done}
+use Rattle.bookfile.proofs.PairFaults.{from, pairs_on, pairs_stop, pairs_done}
 
 module _ {R : Type 0} (f : Format R) (n : ℕ) (bs : List ℕ) where
   -- what a first fault, or none, says, where P holds if there is none

@@ -1,5 +1,4 @@
-pub mod Places
-pub mod Pairs
+pub mod PairFaults
 pub mod Loading
 pub mod Exact
 pub mod Saving

@@ -1,7 +1,7 @@
 -- The parts of a saved file, one line at a time.
-use Rattle.std.proofs.Common.{◌≡◌, ℕ, zero, suc, ◌+◌, ◌*◌, ◌<◌, ◌≤◌, List, [], ◌∷◌, ◌++◌, length, get_or, take, drop, sym, refl, ap, ◌∙◌, zero-add, mul-suc, add-one, arith}
+use Rattle.std.proofs.Common.{◌≡◌, ℕ, zero, suc, ◌+◌, ◌*◌, ◌≤◌, List, [], ◌∷◌, ◌++◌, length, drop, sym, refl, ap, ◌∙◌, zero-add, mul-suc, add-one, arith}
 use Rattle.std.specs.List.{flat_map}
-use Rattle.std.proofs.lemmas.List.{length-append, length-take-le, take_more, flat_map_more, append_assoc}
+use Rattle.std.proofs.lemmas.List.{length-append, append_assoc}
 use Rattle.survey.specs.Bytes.{pasted, two_bytes}
 use Rattle.survey.specs.Formats.{Format, Sound, or_blank}
 use Rattle.survey.proofs.Pastes.{paste_nothing, paste_more}
@@ -13,17 +13,17 @@ unfolding numbers
 numbers_size zero = refl
 numbers_size (suc n) = let e = numbers_size n in length-append (numbers n) (two_bytes n) ∙ omega arith
 
-module _ (old : List ℕ) where
-  pub numbers_begin : old ≡ pasted old 4 (numbers 0)
+module _ (old : List ℕ) (p : ℕ) where
+  pub numbers_begin : old ≡ pasted old p (numbers 0)
   unfolding numbers
-  numbers_begin = sym (paste_nothing old 4)
+  numbers_begin = sym (paste_nothing old p)
 
-  pub numbers_more : (i p : ℕ) (out next : List ℕ) → 4 ≤ length old → p ≡ 4 + 2 * i → out ≡ pasted old 4 (numbers i) → next ≡ pasted out p (two_bytes i)
-      → next ≡ pasted old 4 (numbers (i + 1))
+  pub numbers_more : (i q : ℕ) (out next : List ℕ) → p ≤ length old → q ≡ p + 2 * i → out ≡ pasted old p (numbers i) → next ≡ pasted out q (two_bytes i)
+      → next ≡ pasted old p (numbers (i + 1))
   unfolding numbers
-  numbers_more i p out next h at inv e =
+  numbers_more i q out next h at inv e =
       let size = numbers_size i in
-      e ∙ (ap (λ l. pasted l p (two_bytes i)) inv ∙ (paste_more old 4 p (numbers i) (two_bytes i) h (omega arith) ∙ ap (λ n. pasted old 4 (numbers n)) (sym (add-one i))))
+      e ∙ (ap (λ l. pasted l q (two_bytes i)) inv ∙ (paste_more old p q (numbers i) (two_bytes i) h (omega arith) ∙ ap (λ n. pasted old p (numbers n)) (sym (add-one i))))
 
 module _ {R : Type 0} (f : Format R) (sound : Sound f) where
   pub values_size : (rows : List R) → length (flat_map (value_bytes f) rows) ≡ f.width * length rows
@@ -33,20 +33,17 @@ module _ {R : Type 0} (f : Format R) (sound : Sound f) where
       let w = sound.wide (or_blank f row) in
       length-append (value_bytes f row) (flat_map (value_bytes f) rows) ∙ omega (arith, mul-suc f.width (length rows))
 
-  module _ (rows : List R) (old : List ℕ) (p : ℕ) where
-    pub values_begin : old ≡ pasted old p (flat_map (value_bytes f) (take 0 rows))
-    values_begin = sym (paste_nothing old p)
+  -- the first of the values that are left, and then the others
+  module _ (left rest : List R) (row : R) (on : left ≡ row ∷ rest) (p q : ℕ) (next_place : q ≡ p + f.width) where
+    pub values_left : q + f.width * length rest ≡ p + f.width * length left
+    values_left = rw on (omega (arith, mul-suc f.width (length rest)))
 
-    pub values_more : (i q : ℕ) (out next : List ℕ) → i < length rows → p ≤ length old → q ≡ p + f.width * i
-        → out ≡ pasted old p (flat_map (value_bytes f) (take i rows)) → next ≡ pasted out q (value_bytes f (get_or rows i f.blank))
-        → next ≡ pasted old p (flat_map (value_bytes f) (take (i + 1) rows))
-    values_more i q out next h fits at inv e =
-        let row : R = get_or rows i f.blank in
-        let front : List ℕ = flat_map (value_bytes f) (take i rows) in
-        let size : length front ≡ f.width * i = values_size (take i rows) ∙ ap (λ n. f.width * n) (length-take-le i rows (omega arith)) in
-        let one : flat_map (value_bytes f) (take (i + 1) rows) ≡ front ++ value_bytes f row =
-        ap (flat_map (value_bytes f)) (take_more rows i f.blank h) ∙ sym (flat_map_more (value_bytes f) [] (take i rows) row) in
-        e ∙ (ap (λ l. pasted l q (value_bytes f row)) inv ∙ (paste_more old p q front (value_bytes f row) fits (at ∙ ap (λ n. p + n) (sym size)) ∙ ap (pasted old p) (sym one)))
+    pub values_put : (out next : List ℕ) → p ≤ length out → next ≡ pasted out p (value_bytes f row)
+        → pasted next q (flat_map (value_bytes f) rest) ≡ pasted out p (flat_map (value_bytes f) left)
+    values_put out next fits e =
+        let behind : q ≡ p + length (value_bytes f row) = next_place ∙ ap (λ w. p + w) (sym (sound.wide (or_blank f row))) in
+        ap (λ l. pasted l q (flat_map (value_bytes f) rest)) e
+        ∙ (paste_more out p q (value_bytes f row) (flat_map (value_bytes f) rest) fits behind ∙ ap (λ l. pasted out p (flat_map (value_bytes f) l)) (sym on))
 
   pub file_length : (rows : List R) → length (file_of f rows) ≡ file_size f (length rows)
   unfolding file_of
@@ -72,3 +69,11 @@ module _ {R : Type 0} (f : Format R) (sound : Sound f) where
       ∙ (paste_more old 0 (4 + 2 * n) (head ++ numbers n) values (omega arith) start
       ∙ (ap (pasted old 0) (append_assoc head (numbers n) values)
       ∙ ap (λ z. (head ++ (numbers n ++ values)) ++ drop z old) (zero-add (length (file_of f rows)) ∙ file_length rows)))
+
+  -- the same, part by part
+  pub file_written : (rows : List R) (n p q : ℕ) (old head ones out : List ℕ) → n ≡ length rows → p ≡ 4 → q ≡ p + 2 * n → file_size f (length rows) ≤ length old
+      → head ≡ pasted old 0 (two_bytes n ++ two_bytes n) → ones ≡ pasted head p (numbers n) → out ≡ pasted ones q (flat_map (value_bytes f) rows)
+      → out ≡ file_of f rows ++ drop (length (file_of f rows)) old
+  file_written rows n p q old head ones out many at behind fits h o v =
+      let after : q ≡ 4 + 2 * length rows = omega arith in
+      rw (v, o, h, after, at, many) (file_put rows old fits ∙ ap (λ k. file_of f rows ++ drop k old) (sym (file_length rows)))

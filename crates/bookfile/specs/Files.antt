@@ -1,5 +1,5 @@
 -- The layout of a book file, and the first fault of some bytes that should be one.
-use Rattle.std.specs.Prelude.{◌≡◌, ℕ, zero, suc, ◌+◌, ◌*◌, ◌≤◌, min, Bool, true, false, cond, not, List, [], ◌∷◌, length, drop, Some, None, Ok, Err, Option, Result, ◌==◌, nat_le, nat_lt}
+use Rattle.std.specs.Prelude.{◌≡◌, ℕ, zero, suc, ◌+◌, ◌*◌, min, Bool, true, false, cond, not, List, [], ◌∷◌, length, drop, Some, None, Ok, Err, Option, Result, ◌==◌, nat_le, nat_lt}
 use Rattle.std.specs.Option.{option_or}
 use Rattle.survey.specs.declared.fault.ValueFault.{ValueFault}
 use Rattle.survey.specs.Bytes.{two}
@@ -85,13 +85,3 @@ Tells fault (Err e) = fault ≡ Some e
 abbrev pub TellsCause : Option ValueFault → Result (Unit {0}) FileCause → Type 0
 TellsCause fault (Ok x) = fault ≡ None
 TellsCause fault (Err cause) = (e : ValueFault) × (fault ≡ Some e) × (cause ≡ Value e)
-
--- the head is right, and the answer is m; or it is not
-abbrev pub TellsHead : {R : Type 0} → Format R → ℕ → List ℕ → Result ℕ FileFault → Type 0
-TellsHead f n bs (Ok m) = (head_fault f n bs ≡ None) × (m ≡ pair_count bs) × (m ≤ 4096) × (length bs ≡ file_size f m)
-TellsHead f n bs (Err e) = head_fault f n bs ≡ Some e
-
--- the whole file is right, and the answer is m; or it is not
-abbrev pub TellsFile : {R : Type 0} → Format R → ℕ → List ℕ → Result ℕ FileFault → Type 0
-TellsFile f n bs (Ok m) = (file_fault f n bs ≡ None) × (m ≡ pair_count bs) × (m ≤ 4096) × (length bs ≡ file_size f m)
-TellsFile f n bs (Err e) = file_fault f n bs ≡ Some e

@@ -15,6 +15,7 @@ pub enum CopyRefusal {
     Load(FileFault),
 }
 
+// kept: both conversions are written by hand, since those that thiserror derives do not say which error `?` makes.
 impl From<SaveRefusal> for CopyRefusal {
     ghost from_gives = { λ e r. r ≡ Save e };
 

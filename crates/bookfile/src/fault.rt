@@ -31,7 +31,7 @@ pub struct Placed<C> {
 pub type FileFault = Placed<FileCause>;
 
 impl FileCause {
-    // The number by which the fault is printed.
+    // The number by which the fault is printed. Kept a method: `From` would read as if the number were the fault.
     pub fn number(self) -> u32
         ensures { result ≡ number self }
     {
@@ -44,7 +44,7 @@ impl FileCause {
         }
     }
 
-    // The number of the value's own fault, or 0 where there is none.
+    // The number of the value's own fault, or 0 where there is none. Kept a number: a listing prints it as it is.
     pub fn inner(self) -> u32
         ensures { result ≡ inner self }
     {

@@ -5,8 +5,8 @@ mod bytes;
 mod check;
 pub mod copy;
 pub mod fault;
-mod layout;
 pub mod load;
+mod pairs;
 pub mod save;
 
 pub use check::stated_lines;

@@ -1,13 +1,14 @@
 // Saves a book as a book file.
-ghost use Rattle.std.specs.Prelude.{◌≡◌, ℕ, ◌+◌, ◌*◌, ◌<◌, ◌≤◌, ◌++◌, length, take, IfOk, slice_index_or};
+ghost use Rattle.std.specs.Prelude.{◌≡◌, ℕ, ◌+◌, ◌*◌, ◌<◌, ◌≤◌, ◌++◌, length, take, IfOk};
 ghost use Rattle.std.specs.List.{flat_map};
 ghost use Rattle.survey.specs.Bytes.{pasted, two_bytes};
 ghost use Rattle.bookfile.specs.Faults.{save_number};
 ghost use Rattle.bookfile.specs.Files.{file_size};
 ghost use Rattle.bookfile.specs.Saves.{numbers, value_bytes, file_of, Saves, PutsFront, KeepsLines};
 
-use crate::layout::{HEAD, file_size};
+use crate::pairs::file_size;
 use book::book::Book;
+use book::rows::Rows;
 use std::convert::AsSlice;
 use survey::bytes::put;
 use survey::row::Row;
@@ -19,7 +20,7 @@ pub enum SaveRefusal {
 }
 
 impl SaveRefusal {
-    // The number by which the refusal is printed.
+    // The number by which the refusal is printed. Kept a method: `From` would read as if the number were the refusal.
     pub fn number(self) -> u32
         ensures { result ≡ save_number self }
     {
@@ -29,51 +30,56 @@ impl SaveRefusal {
     }
 }
 
+// Writes bytes where they fit, and answers the place behind them.
+fn paste(out: &mut [u8], place: usize, bytes: &[u8]) -> usize
+    requires { place + length bytes.now ≤ length out.old }
+    ensures place { result ≡ place + length bytes.now }
+    ensures out { out.new ≡ pasted out.old place bytes.now }
+{
+    put(out, place, bytes).unwrap()
+}
+
 // n and m, which are equal, since each line is a pair.
-fn put_head(out: &mut [u8], lines: usize)
+fn put_head(out: &mut [u8], lines: usize) -> usize
     requires { (lines ≤ 1024) × (4 ≤ length out.old) }
-    ensures { out.new ≡ pasted out.old 0 (two_bytes lines ++ two_bytes lines) }
+    ensures place { result ≡ 4 }
+    ensures out { out.new ≡ pasted out.old 0 (two_bytes lines ++ two_bytes lines) }
 {
     let [low, high] = (lines as u16).to_le_bytes();
-    let _ = put(out, 0, &[low, high, low, high]);
+    paste(out, 0, &[low, high, low, high])
 }
 
-fn put_number(out: &mut [u8], place: usize, line: usize)
-    requires { (line ≤ 1024) × (place + 2 ≤ length out.old) }
-    ensures { out.new ≡ pasted out.old place (two_bytes line) }
+// The numbers of the lines.
+fn put_numbers(out: &mut [u8], place: usize, lines: usize) -> usize
+    requires { (lines ≤ 1024) × (place + 2 * lines ≤ length out.old) }
+    ensures place { result ≡ place + 2 * lines }
+    ensures out { out.new ≡ pasted out.old place (numbers lines) }
 {
-    let _ = put(out, place, &(line as u16).to_le_bytes());
-}
-
-fn put_numbers(out: &mut [u8], lines: usize)
-    requires { (lines ≤ 1024) × (4 + 2 * lines ≤ length out.old) }
-    ensures { out.new ≡ pasted out.old 4 (numbers lines) }
-{
+    let mut place = place;
     for line in 0..lines {
-        put_number(out, HEAD + 2 * line, line);
+        place = paste(out, place, &(line as u16).to_le_bytes());
     }
+    place
 }
 
 // The values of the lines, from `place` on.
 fn put_values<R: Row, B: Book<Value = R>>(book: &B, out: &mut [u8], place: usize)
-    requires { (place ≤ 65536) × (place + R.Row.format.width * length (B.Book.lines book.now) ≤ length out.old) }
+    requires { place + R.Row.format.width * length (B.Book.lines book.now) ≤ length out.old }
     ensures { out.new ≡ pasted out.old place (flat_map (value_bytes R.Row.format) (B.Book.lines book.now)) }
 {
-    for line in 0..book.size() {
-        put_value(book, line, out, place + R::WIDTH * line);
+    let mut place = place;
+    for row in Rows::new(book) {
+        place = put_value(row, out, place);
     }
 }
 
-// The value of one line.
-fn put_value<R: Row, B: Book<Value = R>>(book: &B, line: usize, out: &mut [u8], place: usize)
-    requires { (line < length (B.Book.lines book.now)) × (place + R.Row.format.width ≤ length out.old) }
-    ensures { out.new ≡ pasted out.old place (value_bytes R.Row.format (slice_index_or (B.Book.lines book.now) line R.Row.format.blank)) }
+// The value that a row counts as.
+fn put_value<R: Row>(row: R, out: &mut [u8], place: usize) -> usize
+    requires { place + R.Row.format.width ≤ length out.old }
+    ensures place { result ≡ place + R.Row.format.width }
+    ensures out { out.new ≡ pasted out.old place (value_bytes R.Row.format row) }
 {
-    let Ok(row) = book.read(line) else {
-        unreachable()
-    };
-    let bytes = R::encode(row.or_blank());
-    let _ = put(out, place, bytes.as_slice());
+    paste(out, place, R::encode(row.or_blank()).as_slice())
 }
 
 // The length of the file of a book.
@@ -92,9 +98,9 @@ fn put_file<R: Row, B: Book<Value = R>>(book: &B, out: &mut [u8])
     ensures keeps { (size : ℕ) → size ≡ length (file_of R.Row.format (B.Book.lines book.now)) → KeepsLines R.Row.format (B.Book.lines book.now) (take size out.new) }
 {
     let lines = book.size();
-    put_head(out, lines);
-    put_numbers(out, lines);
-    put_values(book, out, HEAD + 2 * lines);
+    let place = put_head(out, lines);
+    let place = put_numbers(out, place, lines);
+    put_values(book, out, place);
 }
 
 // Writes each line once, in order, and answers the length of the file; where it does not fit, writes nothing.

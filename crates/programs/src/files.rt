@@ -4,9 +4,8 @@ use std::{fs, io};
 
 // The bytes of the file `book` in the working folder; a missing file counts as empty.
 pub fn book_file(rt: &HostRuntime) -> io::Result<Vec<u8>> {
-    match fs::read(rt, "book") {
-        Ok(bytes) => Ok(bytes),
-        Err(e) if e.kind() == ErrorKind::NotFound => Ok(Vec::new(rt.alloc())),
-        Err(e) => Err(e),
-    }
+    fs::read(rt, "book").or_else(|e| match e.kind() {
+        ErrorKind::NotFound => Ok(Vec::new(rt.alloc())),
+        _ => Err(e),
+    })
 }

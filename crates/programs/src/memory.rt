@@ -1,11 +1,13 @@
 // Want of memory, the one thing that stops a program between reading and printing.
 use std::alloc::{AllocError, AllocFailed};
-use std::error::Error;
 use std::fmt;
+use thiserror::Error;
 
-#[derive(Clone, Copy, Debug, PartialEq, Eq)]
+#[derive(Clone, Copy, Debug, PartialEq, Eq, Error)]
+#[error("there is not enough memory")]
 pub struct NoMemory;
 
+// kept: the three conversions are written by hand, since a derived one keeps what it was made of, and want of memory is one thing.
 impl From<AllocError> for NoMemory {
     fn from(_e: AllocError) -> NoMemory {
         NoMemory
@@ -23,11 +25,3 @@ impl From<fmt::Error> for NoMemory {
         NoMemory
     }
 }
-
-impl fmt::Display for NoMemory {
-    fn fmt<W: fmt::Write>(&self, f: &mut fmt::Formatter<W>) -> fmt::Result {
-        write!(f, "there is not enough memory")
-    }
-}
-
-impl Error for NoMemory {}

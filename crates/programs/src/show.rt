@@ -9,6 +9,7 @@ ghost use Rattle.script.specs.BookFaults.{printed};
 use crate::memory::NoMemory;
 use book::book::Book;
 use book::flat::FlatBook;
+use book::rows::Rows;
 use bookfile::fault::FileFault;
 use bookfile::load::load;
 use bookfile::stated_lines;
@@ -30,10 +31,7 @@ fn push_line<R: Row>(out: &mut String, line: usize, row: R) -> Result<(), NoMemo
 pub fn push_book<R: Row, B: Book<Value = R>>(out: &mut String, book: &B) -> Result<(), NoMemory>
     ensures { OnOk result (string_bytes out.new ≡ string_bytes out.old ++ book_lines R.Row.format 0 (B.Book.lines book.now)) }
 {
-    for line in 0..book.size() {
-        let Ok(row) = book.read(line) else {
-            unreachable()
-        };
+    for (line, row) in Rows::new(book).enumerate() {
         push_line(out, line, row)?;
     }
     Ok(())
@@ -51,11 +49,8 @@ fn push_fault(out: &mut String, fault: FileFault) -> Result<(), NoMemory>
 fn blank_lines<R: Row>(heap: Global, count: usize) -> Result<Vec<R>, NoMemory>
     ensures { IfOk result (λ rows. rows.items ≡ replicate count R.Row.format.blank) }
 {
-    let blank = R::of(R::blank());
     let mut rows = Vec::new(heap);
-    for _line in 0..count {
-        rows.push(blank)?;
-    }
+    rows.resize(count, R::from(R::blank()))?;
     Ok(rows)
 }
 
@@ -63,8 +58,7 @@ fn blank_lines<R: Row>(heap: Global, count: usize) -> Result<Vec<R>, NoMemory>
 fn blank_book<R: Row>(heap: Global, file: &[u8]) -> Result<Vec<R>, NoMemory>
     ensures { IfOk result (λ rows. take 1024 rows.items ≡ replicate (stated_lines file.now) R.Row.format.blank) }
 {
-    let rows = blank_lines(heap, stated_lines(file))?;
-    Ok(rows)
+    blank_lines(heap, stated_lines(file))
 }
 
 // Loads a file into a book and adds every line of it, or the fault of the file and nothing else.

@@ -5,6 +5,7 @@ use anyhow::anyhow;
 use std::env;
 use survey::leg::LegRow;
 use survey::metres::MetresRow;
+use survey::row::Row;
 
 const USAGE: &str = "show legs    prints the legs of the file `book` in this folder
 show ropes   prints the metres of rope of the file `book` in this folder
@@ -26,13 +27,10 @@ enum Request {
 // What the arguments ask for, if they are understood.
 fn asked(rt: &HostRuntime) -> anyhow::Result<Option<Request>> {
     let mut args = env::args(rt)?.skip(1);
-    let Some(first) = args.next() else {
+    let (Some(word), None) = (args.next(), args.next()) else {
         return Ok(None);
     };
-    if args.next().is_some() {
-        return Ok(None);
-    }
-    let request = match first.as_str() {
+    let request = match word.as_str() {
         "legs" => Some(Request::Legs),
         "ropes" => Some(Request::Ropes),
         "--help" => Some(Request::Help),
@@ -41,16 +39,21 @@ fn asked(rt: &HostRuntime) -> anyhow::Result<Option<Request>> {
     Ok(request)
 }
 
+// Prints the book in the file.
+fn print_book<R: Row>(rt: &HostRuntime) -> anyhow::Result<()> {
+    let file = book_file(rt)?;
+    rt.print(show::<R>(rt.alloc(), file.as_slice())?)?;
+    Ok(())
+}
+
 pub fn run(rt: &HostRuntime) -> anyhow::Result<()> {
-    let heap = rt.alloc();
     match asked(rt)? {
-        Some(Request::Legs) => rt.print(show::<LegRow>(heap, book_file(rt)?.as_slice())?)?,
-        Some(Request::Ropes) => rt.print(show::<MetresRow>(heap, book_file(rt)?.as_slice())?)?,
-        Some(Request::Help) => rt.println(USAGE)?,
+        Some(Request::Legs) => print_book::<LegRow>(rt),
+        Some(Request::Ropes) => print_book::<MetresRow>(rt),
+        Some(Request::Help) => Ok(rt.println(USAGE)?),
         None => {
             rt.eprintln(USAGE)?;
-            return Err(anyhow!("one argument is needed: legs, ropes or --help"));
+            Err(anyhow!("one argument is needed: legs, ropes or --help"))
         }
     }
-    Ok(())
 }

@@ -1,8 +1,9 @@
-// The sizes of books and chapters, and what a write leaves.
+// The sizes of books and chapters, what a write leaves, and the lines in order.
 use book::book::Book;
 use book::chapter::Chapter;
 use book::flat::FlatBook;
 use book::refusal::BookRefusal;
+use book::rows::Rows;
 
 // The size of a flat book over so many places, and what reading and writing past it answers.
 fn flat_book(places: usize) -> (usize, Result<u32, BookRefusal>, Result<(), BookRefusal>) {
@@ -73,5 +74,15 @@ fn a_chapter_of_a_chapter_writes_one_line_below(rt: HostRuntime) {
         .enumerate()
     {
         assert_eq!(rt; book.read(line), Ok(*want));
+    }
+}
+
+#[test]
+fn the_lines_of_a_chapter_come_in_order(rt: HostRuntime) {
+    let mut memory = [0u32, 10, 20, 30, 40];
+    let chapter = Chapter::new(FlatBook::new(&mut memory), 1, 3);
+    let mut rows = Rows::new(&chapter);
+    for want in [Some(10), Some(20), Some(30), None, None] {
+        assert_eq!(rt; rows.next(), want);
     }
 }

@@ -1,6 +1,6 @@
 // The ranges of legs and metres.
 use survey::leg::{Leg, LegRow};
-use survey::metres::MetresRow;
+use survey::metres::{Metres, MetresRow};
 use survey::row::Row;
 
 // The number of the fault of four numbers, or 0 where they are a leg.
@@ -61,7 +61,7 @@ fn rows_outside_the_ranges_are_blank(rt: HostRuntime) {
         ),
     ];
     for (row, want) in cases {
-        assert_eq!(rt; LegRow::of(row.or_blank()), want);
+        assert_eq!(rt; LegRow::from(row.or_blank()), want);
     }
 }
 
@@ -75,7 +75,7 @@ fn metres_at_their_edges(rt: HostRuntime) {
     ];
     for (count, fault, counted) in cases {
         let row = MetresRow { count };
-        let number = match row.check() {
+        let number = match Metres::try_from(row) {
             Ok(_) => 0,
             Err(e) => e.number(),
         };

@@ -1,11 +1,8 @@
-use Rattle.std.proofs.Common.{take, set, sym, ap, ◌∙◌, zero-add, arith}
-use Rattle.book.proofs.Parts.{take-set-any}
+use Rattle.book.proofs.Parts.{lines_written, places_written}
 use Rattle.book.proofs.flat.write_line.Goals as goal
 
-pub returns-then-line-line_count : goal.returns-then-line-line_count
-returns-then-line-line_count g c =
-    let memory = c.args.memory.now in
-    record {
-      lines = (omega arith, ap (take 1024) c.put_at.ensures ∙ take-set-any 1024 memory c.args.line c.args.value);
-      places = c.put_at.ensures ∙ ap (λ i. set memory i c.args.value) (sym (zero-add c.args.line));
-    }
+pub returns-clause-lines : goal.returns-clause-lines
+returns-clause-lines g c = lines_written 1024 c.min-lines.result c.args.memory.now c.put.new.memory c.args.line c.args.value c.min-lines.ensures c.put.result c.put.ensures
+
+pub returns-clause-places : goal.returns-clause-places
+returns-clause-places g c = places_written 1024 c.min-lines.result c.args.memory.now c.put.new.memory c.args.line c.args.value c.min-lines.ensures c.put.result c.put.ensures

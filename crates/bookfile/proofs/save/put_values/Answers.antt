@@ -1,28 +1,27 @@
-use Rattle.std.proofs.Common.{◌+◌, ◌*◌, length, ap, ◌∙◌, arith}
+use Rattle.std.proofs.Common.{arith, ap, ◌∙◌, sym}
 use Rattle.std.specs.List.{flat_map}
-use Rattle.std.proofs.lemmas.List.{take_all}
 use Rattle.survey.specs.Bytes.{pasted}
+use Rattle.survey.proofs.Pastes.{paste_nothing}
+use Rattle.book.specs.Rows.{rows_left}
 use Rattle.bookfile.specs.Saves.{value_bytes}
-use Rattle.bookfile.proofs.Places.{value_fits}
-use Rattle.bookfile.proofs.Saving.{values_begin, values_more}
+use Rattle.bookfile.proofs.Saving.{values_left, values_put}
 use Rattle.bookfile.proofs.save.put_values.Goals as goal
 
-pub loop-line-init : goal.loop-line-init
-loop-line-init g c = values_begin g.R.Row.format g.met.R.Row.sound (g.B.Book.lines c.args.book.now) c.args.out.now c.args.place
-
-pub put_value-requires : goal.put_value-requires
-put_value-requires g c =
-    let w = ap (λ w. w * c.loop-line.line) (c.WIDTH.ensures ∙ g.met.R.Row.wide) in
-    let h = value_fits g.R.Row.format.width (length (g.B.Book.lines c.args.book.now)) c.loop-line.line (omega arith) in
-    (omega arith, omega arith)
-
-pub loop-line-preserved : goal.loop-line-preserved
-loop-line-preserved g c =
-    values_more g.R.Row.format g.met.R.Row.sound (g.B.Book.lines c.args.book.now) c.args.out.now c.args.place
-    c.loop-line.line (c.args.place + c.WIDTH.result * c.loop-line.line) c.loop-line.out c.put_value.new.out (omega arith) (omega arith)
-    (ap (λ w. c.args.place + w * c.loop-line.line) (c.WIDTH.ensures ∙ g.met.R.Row.wide)) c.loop-line.invariant c.put_value.ensures
+pub loop-row-preserved : goal.loop-row-preserved
+loop-row-preserved g c =
+    let f = g.R.Row.format in
+    let sound = g.met.R.Row.sound in
+    let on = c.in-Some.ensures.steps in
+    let now = c.loop-row.invariant in
+    let p = c.loop-row.place in
+    let next = c.put_value-place.ensures.place in
+    record {
+      fills = values_left f sound (rows_left c.loop-row.row-iterator) (rows_left c.next.new.self) c.in-Some.row on p c.put_value-place.result next ∙ now.fills;
+      whole = values_put f sound (rows_left c.loop-row.row-iterator) (rows_left c.next.new.self) c.in-Some.row on p c.put_value-place.result next c.loop-row.out c.put_value-place.new.out (omega arith) c.put_value-place.ensures.out ∙ now.whole;
+    }
 
 pub returns : goal.returns
 returns g c =
-    let rows = g.B.Book.lines c.args.book.now in
-    c.loop-line.invariant ∙ ap (λ l. pasted c.args.out.now c.args.place (flat_map (value_bytes g.R.Row.format) l)) (take_all c.loop-line.line rows (omega arith))
+    let out = c.loop-row.out in
+    let p = c.loop-row.place in
+    sym (paste_nothing out p) ∙ (ap (λ l. pasted out p (flat_map (value_bytes g.R.Row.format) l)) (sym c.in-None.ensures.steps.0) ∙ c.loop-row.invariant.whole)
