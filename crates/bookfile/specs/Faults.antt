@@ -1,6 +1,6 @@
 -- The numbers of the faults of a book file.
-use Rattle.std.specs.Prelude.{ℕ, Ok, Err, Result}
-use Rattle.survey.specs.Faults as values
+use Rattle.std.specs.Prelude.{ℕ, Some, None, Ok, Err, Option, Result}
+use Rattle.survey.specs.declared.fault.ValueFault.{ValueFault}
 use Rattle.bookfile.specs.declared.fault.FileCause.{FileCause}
 use Rattle.bookfile.specs.declared.fault.FileCause.TheVariants.{Short, Lines, Pairs, Length, Line, Value}
 use Rattle.bookfile.specs.declared.fault.Placed.{Placed}
@@ -19,14 +19,14 @@ number Length = 33
 number Line = 34
 number (Value fault) = 35
 
--- the number of the value's own fault
-abbrev pub inner : FileCause → ℕ
-inner Short = 0
-inner Lines = 0
-inner Pairs = 0
-inner Length = 0
-inner Line = 0
-inner (Value fault) = values.number fault
+-- the value's own fault, where one is the cause
+abbrev pub inner : FileCause → Option ValueFault
+inner Short = None
+inner Lines = None
+inner Pairs = None
+inner Length = None
+inner Line = None
+inner (Value fault) = Some fault
 
 -- an answer with the place at which it went wrong
 abbrev pub at : {T C : Type 0} → ℕ → Result T C → Result T (Placed C)

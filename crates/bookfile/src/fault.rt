@@ -44,13 +44,13 @@ impl FileCause {
         }
     }
 
-    // The number of the value's own fault, or 0 where there is none. Kept a number: a listing prints it as it is.
-    pub fn inner(self) -> u32
+    // The value's own fault, where one is the cause.
+    pub fn inner(self) -> Option<ValueFault>
         ensures { result ≡ inner self }
     {
         match self {
-            FileCause::Value(fault) => fault.number(),
-            _ => 0,
+            FileCause::Value(fault) => Some(fault),
+            _ => None,
         }
     }
 }

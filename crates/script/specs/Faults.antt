@@ -1,5 +1,6 @@
 -- What can be wrong with a turn list, and what is listed of any fault. Assumes nothing.
 use Rattle.std.specs.Prelude.{ℕ, Some, None, Option}
+use Rattle.survey.specs.declared.fault.ValueFault.{ValueFault}
 use Rattle.bookfile.specs.Faults as file
 use Rattle.script.specs.declared.fault.LineCause.{LineCause}
 use Rattle.script.specs.declared.fault.LineCause.TheVariants.{UnknownLetter, NotNumber, WordCount}
@@ -55,8 +56,8 @@ fault_place (fault.File f) = f.place
 fault_place (fault.List TooLong) = most_bytes
 fault_place (fault.Line n f) = f.place
 
--- the number of what caused a fault, or 0
-abbrev pub fault_cause : Fault → ℕ
+-- the fault of a value, where one is the cause
+abbrev pub fault_cause : Fault → Option ValueFault
 fault_cause (fault.File f) = file.inner f.cause
-fault_cause (fault.List f) = 0
-fault_cause (fault.Line n f) = 0
+fault_cause (fault.List f) = None
+fault_cause (fault.Line n f) = None

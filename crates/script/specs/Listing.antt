@@ -1,6 +1,7 @@
 -- The bytes of the lines of a listing. Assumes nothing.
 use Rattle.std.specs.Prelude.{ℕ, List, [], ◌∷◌, ◌++◌, Some, codes, decimal, Option, unwrap_or}
-use Rattle.std.specs.Option.{option_map}
+use Rattle.std.specs.Option.{option_map, option_map_or}
+use Rattle.survey.specs.Faults as value
 use Rattle.calls.specs.declared.answer.Answer.{Answer}
 use Rattle.calls.specs.declared.answer.Answer.TheVariants.{Read, Write, End, Back}
 use Rattle.calls.specs.Refusals.{refusal_number}
@@ -14,11 +15,11 @@ use Rattle.script.specs.Letters.{letter_byte}
 abbrev pub look_line : ℕ → List ℕ → List ℕ
 look_line line value = codes "L " ++ (decimal line ++ (codes " " ++ (value ++ codes "\n")))
 
--- what was wrong with the input: in which line of it, or 0 for the whole; which fault, where, and its cause
+-- what was wrong with the input: in which line of it, or 0 for the whole; which fault, where, and the fault of a value that caused it, or 0
 abbrev pub fault_line : Fault → List ℕ
 fault_line f =
     codes "! "
-    ++ (decimal (unwrap_or (faulty_line f) 0) ++ (codes " " ++ (decimal (fault_number f) ++ (codes " " ++ (decimal (fault_place f) ++ (codes " " ++ (decimal (fault_cause f) ++ codes "\n")))))))
+    ++ (decimal (unwrap_or (faulty_line f) 0) ++ (codes " " ++ (decimal (fault_number f) ++ (codes " " ++ (decimal (fault_place f) ++ (codes " " ++ (decimal (option_map_or value.number (fault_cause f) 0) ++ codes "\n")))))))
 
 -- what a step answered
 abbrev pub answer_bytes : Answer → List ℕ

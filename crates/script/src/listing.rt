@@ -12,6 +12,7 @@ use calls::answer::Answer;
 use calls::ending::Ending;
 use calls::refusal::Refusal;
 use std::fmt;
+use survey::fault::ValueFault;
 
 // A line of a book, with the value that it holds.
 #[derive(Clone, Copy)]
@@ -90,14 +91,13 @@ impl Fault {
         }
     }
 
-    // The number of what caused it, or 0 where nothing else did.
-    // Kept a number: it is there to be printed, and so is the cause's own in `bookfile`.
-    pub fn cause(self) -> u32
+    // The fault of a value, where one is the cause.
+    pub fn cause(self) -> Option<ValueFault>
         ensures { result ≡ fault_cause self }
     {
         match self {
             Fault::File(fault) => fault.cause.inner(),
-            Fault::List(_) | Fault::Line { .. } => 0,
+            Fault::List(_) | Fault::Line { .. } => None,
         }
     }
 }
@@ -109,7 +109,7 @@ impl fmt::Display for Fault {
         let line = self.line().unwrap_or(0);
         let number = self.number();
         let place = self.place();
-        let cause = self.cause();
+        let cause = self.cause().map_or(0, |fault| fault.number());
         write!(f, "! {line} {number} {place} {cause}\n")
     }
 }

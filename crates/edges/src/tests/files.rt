@@ -21,7 +21,10 @@ fn fault(file: &[u8]) -> (u32, usize, u32) {
     let mut memory = [BLANK; 3];
     match load(file, &mut FlatBook::new(&mut memory)) {
         Ok(()) => (0, 0, 0),
-        Err(FileFault { place, cause }) => (cause.number(), place, cause.inner()),
+        Err(FileFault { place, cause }) => {
+            let inner = cause.inner().map_or(0, |fault| fault.number());
+            (cause.number(), place, inner)
+        }
     }
 }
 
