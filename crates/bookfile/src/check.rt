@@ -34,9 +34,7 @@ impl<'a, R: Row> Pairs<'a, R> {
         ensures { Tells (pair_fault R.Row.format lines self.now.count self.now.bytes.now pair) result }
     {
         if self.line(pair) >= lines {
-            let place = self.line_place(pair);
-            let cause = FileCause::Line;
-            return Err(FileFault { place, cause });
+            return located(Err(FileCause::Line), self.line_place(pair));
         }
         located(check_row(self.row(pair)), self.value_place(pair))
     }

@@ -3,7 +3,7 @@ ghost use Rattle.std.specs.Prelude.{◌≡◌, ◌+◌, ◌<◌, ◌≤◌, leng
 ghost use Rattle.bookfile.specs.Files.{pair_count, line_place, value_place, line_of, row_of, file_size, head_fault, Tells};
 
 use crate::bytes::two_at;
-use crate::fault::{FileCause, FileFault};
+use crate::fault::{FileCause, FileFault, located};
 use std::marker::PhantomData;
 use survey::row::Row;
 
@@ -38,28 +38,18 @@ impl<'a, R: Row> Pairs<'a, R> {
         ensures same { IfOk result (λ pairs. pairs.bytes.now ≡ bytes.now) }
     {
         if bytes.len() < HEAD {
-            let cause = FileCause::Short;
-            return Err(FileFault {
-                place: bytes.len(),
-                cause,
-            });
+            return located(Err(FileCause::Short), bytes.len());
         }
         if two_at(bytes, 0) != lines {
-            let cause = FileCause::Lines;
-            return Err(FileFault { place: 0, cause });
+            return located(Err(FileCause::Lines), 0);
         }
         let count = two_at(bytes, 2);
         if count > MOST_PAIRS {
-            let cause = FileCause::Pairs;
-            return Err(FileFault { place: 2, cause });
+            return located(Err(FileCause::Pairs), 2);
         }
         let size = file_size::<R>(count);
         if bytes.len() != size {
-            let cause = FileCause::Length;
-            return Err(FileFault {
-                place: bytes.len().min(size),
-                cause,
-            });
+            return located(Err(FileCause::Length), bytes.len().min(size));
         }
         Ok(Pairs {
             bytes,
