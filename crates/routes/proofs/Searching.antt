@@ -1,5 +1,5 @@
 -- A search alone ends in time, and its answer is right.
-use Rattle.std.proofs.Common.{◌≡◌, ℕ, zero, suc, ◌+◌, ◌-◌, ◌*◌, ◌%◌, ◌<◌, ◌≤◌, Bool, true, false, ◌||◌, eqb, ltb, List, [], length, get_or, take, set, Some, None, Ok, Err, Option, Result, sym, refl, ap, ◌∙◌, subst, inl, inr, mod-eq_of_lt, suc-mul, arith}
+use Rattle.std.proofs.Common.{◌≡◌, ℕ, zero, suc, ◌+◌, ◌-◌, ◌*◌, ◌%◌, ◌<◌, ◌≤◌, true, false, ◌||◌, eqb, ltb, List, [], length, take, Some, None, Ok, Err, Option, Result, sym, refl, ap, ◌∙◌, subst, inl, inr, mod-eq_of_lt, suc-mul, arith}
 use native.Mathlib.Nat.{add-mod_left}
 use Rattle.std.proofs.lemmas.Bool.{ltb-false, cond-true, cond-false, cases_eq, cases_lt, cases_Bool, eq-eqb, ne_eqb, or_parts}
 use Rattle.survey.specs.declared.leg.LegRow.{LegRow}
@@ -19,7 +19,7 @@ use Rattle.routes.specs.declared.reach.Nearest.{Nearest}
 use Rattle.routes.specs.declared.reach.Station.{Station}
 use Rattle.routes.specs.Reaches.{reached_first, marked, nearest_of}
 use Rattle.routes.specs.Searches.{route_family, bad_order, ending_of, request_of, chosen, begun_at, first_next, first_search, refused}
-use Rattle.routes.specs.Routes.{Among, Route, here, onward, Least, Right, legs_of, Searched, SearchesAreRight, EndedSearchesAreRight}
+use Rattle.routes.specs.Routes.{Among, Route, here, onward, Right, legs_of, Searched, SearchesAreRight, EndedSearchesAreRight}
 use Rattle.routes.specs.Answers.{still, length_found, Answers}
 use Rattle.routes.proofs.Legs.{all_in_range}
 use Rattle.routes.proofs.Relaxing.{relaxed_all}

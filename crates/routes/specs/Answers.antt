@@ -9,7 +9,7 @@ use Rattle.routes.specs.declared.search.Next.{Next}
 use Rattle.routes.specs.declared.search.Next.TheVariants.{Line, Ended}
 use Rattle.routes.specs.declared.refusal.SearchRefusal.{SearchRefusal}
 use Rattle.routes.specs.declared.refusal.SearchRefusal.TheVariants.{BadOrder, NoLine}
-use Rattle.routes.specs.Searches.{bad_order, route_family}
+use Rattle.routes.specs.Searches.{bad_order}
 use Rattle.routes.specs.Routes.{Least, NoRoute, legs_of}
 
 -- a search as a job that has written nothing

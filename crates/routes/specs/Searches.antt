@@ -1,5 +1,5 @@
 -- The four functions of the route family.
-use Rattle.std.specs.Prelude.{ℕ, ◌+◌, Bool, cond, ◌||◌, List, Some, None, Ok, Err, Option, Result, ◌==◌, nat_lt}
+use Rattle.std.specs.Prelude.{ℕ, ◌+◌, Bool, cond, ◌||◌, Some, None, Ok, Err, Option, Result, ◌==◌, nat_lt}
 use Rattle.survey.specs.declared.leg.LegRow.{LegRow}
 use Rattle.survey.specs.Legs.{as_leg}
 use Rattle.calls.specs.declared.ending.Ending.{Ending}

@@ -1,10 +1,9 @@
-use Rattle.std.proofs.Common.{◌≡◌, ℕ, [], ◌∷◌, Option, None, refl, sym, ◌∙◌, subst, rules}
+use Rattle.std.proofs.Common.{◌≡◌, [], ◌∷◌, None, refl, sym, ◌∙◌, subst, rules}
 use Rattle.std.specs.List.{fold, range_with_len}
 use Rattle.std.proofs.iter.Yields.{nat_range_steps}
 use Rattle.std.proofs.lemmas.Fn.{fold_over}
 use Rattle.std.proofs.lemmas.Iterator.{YieldsList-from_range}
 use Rattle.std.proofs.lemmas.List.Sums.{fold-append}
-use Rattle.routes.specs.declared.reach.Nearest.{Nearest}
 use Rattle.routes.specs.Reaches.{nearest_of, Inside}
 use Rattle.routes.proofs.Choosing.{better, fold-better, nearest_inside}
 use Rattle.routes.proofs.reach.Reach.nearest.Goals as goal
