@@ -32,7 +32,8 @@ impl From<FileFault> for CopyRefusal {
     }
 }
 
-fn save_and_load<R: Row, B: Book<Value = R>, C: Book<Value = R>>(
+// Saves `from` into `file` and loads that into `to`, which then has the same lines.
+pub fn copy<R: Row, B: Book<Value = R>, C: Book<Value = R>>(
     from: &B,
     file: &mut [u8],
     to: &mut C,
@@ -42,15 +43,4 @@ fn save_and_load<R: Row, B: Book<Value = R>, C: Book<Value = R>>(
     let size = save(from, file)?;
     load(&file[0..size], to)?;
     Ok(())
-}
-
-// Saves `from` into `file` and loads that into `to`, which then has the same lines.
-pub fn copy<R: Row, B: Book<Value = R>, C: Book<Value = R>>(
-    from: &B,
-    file: &mut [u8],
-    to: &mut C,
-) -> Result<(), CopyRefusal>
-    ensures { Copies R.Row.format (B.Book.lines from.now) (length file.old) (C.Book.lines to.old) (C.Book.lines to.new) result }
-{
-    save_and_load(from, file, to)
 }

@@ -58,12 +58,6 @@ fn search<B: Book<Value = LegRow>>(book: &B, order: Order) -> Result<Option<u32>
     Ok(answer(book, errand))
 }
 
-// What is known of every search on every book, whoever does its turns.
-fn searches_are_right()
-    ensures searches { SearchesAreRight }
-    ensures ended { EndedSearchesAreRight }
-{}
-
 // The least length of a route from one station to another over the first `count` lines of a book, if there is a route, by the route job done alone.
 pub fn least_route<B: Book<Value = LegRow>>(
     book: &B,
@@ -75,7 +69,6 @@ pub fn least_route<B: Book<Value = LegRow>>(
     ensures searches { SearchesAreRight }
     ensures ended { EndedSearchesAreRight }
 {
-    searches_are_right();
     let order = Order {
         kind: 0,
         a: from,

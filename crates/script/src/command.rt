@@ -113,6 +113,7 @@ fn call_of(letter: Letter, words: &mut Reader) -> Result<Call, LineFault>
 }
 
 // The letter, the count of words, and the numbers: the first that fails is the fault.
+// Kept apart from `call_in`, which adds the laws once, and not at each of these answers.
 fn read_call(line: &[u8]) -> Result<Call, LineFault>
     ensures { result ≡ line_says line.now }
 {

@@ -2,7 +2,7 @@ use Rattle.std.proofs.Common.{◌<◌, length, Ok, Err, refl, subst, arith}
 use Rattle.std.proofs.lemmas.Result.{err_from_is_err_and}
 use Rattle.bookfile.proofs.Kept.{loads_saved}
 use Rattle.bookfile.proofs.Saving.{file_length}
-use Rattle.bookfile.proofs.copy.save_and_load.Goals as goal
+use Rattle.bookfile.proofs.copy.copy.Goals as goal
 
 pub returns-in_err-size : goal.returns-in_err-size
 returns-in_err-size g c =
