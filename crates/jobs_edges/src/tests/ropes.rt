@@ -1,6 +1,7 @@
 // Transfers and counts alone, at their limits.
 use book::book::Book;
 use book::flat::FlatBook;
+use book::rows::Rows;
 use calls::ending::Ending;
 use calls::order::Order;
 use families::count::Count;
@@ -46,10 +47,8 @@ fn done(
         Err(error) => return Err(error),
     };
     let mut after = [0; 4];
-    for line in 0..4 {
-        if let Ok(row) = book.read(line) {
-            after[line] = row.or_blank().count();
-        }
+    for (count, row) in after.iter_mut().zip(Rows::new(&book)) {
+        *count = row.or_blank().count();
     }
     Ok((came, after))
 }
