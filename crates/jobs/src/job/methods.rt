@@ -42,10 +42,10 @@ impl<S: Copy, V: Copy> Job<S, V> {
     fn value_of<B: Book<Value = V>>(&self, book: &B, line: u32) -> Result<V, Refusal>
         ensures { result ≡ ok_or (option_or (newest self.now.writes line) (slice_get (B.Book.lines book.now) line)) NoLine }
     {
-        match newest_write(&self.writes, line) {
-            Some(value) => Ok(value),
-            None => Ok(book.read(line as usize)?),
+        if let Some(value) = newest_write(&self.writes, line) {
+            return Ok(value);
         }
+        Ok(book.read(line as usize)?)
     }
 
     fn read<F: Family<State = S, Value = V>, B: Book<Value = V>>(
