@@ -22,6 +22,7 @@ use std::alloc::{AllocError, Global};
 pub const MOST_WRITES: usize = 16;
 
 // A turn answers the ending if the job ended, none if it goes on, and a refusal if it is stuck.
+// Kept two parameters, the family and the book: one struct of both would lend the book to be written where it is only read.
 impl<S: Copy, V: Copy> Job<S, V> {
     // The job of an order, before its first turn.
     pub fn start<F: Family<State = S, Value = V>>(
