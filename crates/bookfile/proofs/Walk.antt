@@ -5,7 +5,7 @@ use Rattle.std.specs.Option.{option_or}
 use Rattle.survey.specs.Formats.{Format, Decodes}
 use Rattle.bookfile.specs.declared.pair.Pair.{Pair}
 use Rattle.bookfile.specs.Faults.{FileFault}
-use Rattle.bookfile.specs.Files.{line_place, value_place, line_of, row_of, pair_of, pairs_from, pairs_between, fault_of, pair_fault, pairs_fault}
+use Rattle.bookfile.specs.Files.{line_of, row_of, pair_of, pairs_from, pairs_between, fault_of, pair_fault, pairs_fault}
 use Rattle.bookfile.specs.Loads.{loaded}
 
 module _ {R : Type 0} (f : Format R) where

@@ -3,6 +3,7 @@ ghost use Rattle.std.specs.Prelude.{◌≡◌, ℕ, ◌≤◌, length, IfOk};
 ghost use Rattle.bookfile.specs.Meanings.{Exactly};
 ghost use Rattle.bookfile.specs.Files.{fault_of, pairs_fault, file_fault, stated_lines, Tells, TellsCause};
 
+use crate::bytes::number;
 use crate::fault::{FileCause, FileFault, located};
 use crate::pair::Pair;
 use crate::pairs::Pairs;
@@ -15,7 +16,7 @@ pub fn stated_lines(bytes: &[u8]) -> usize
     ensures bound { result ≤ 1024 }
 {
     match bytes {
-        [low, high, ..] => MOST_LINES.min(u16::from_le_bytes([*low, *high]) as usize),
+        [low, high, ..] => MOST_LINES.min(number(*low, *high)),
         _ => 0,
     }
 }
