@@ -17,18 +17,18 @@ pub enum CopyRefusal {
 
 // kept: both conversions are written by hand, since those that thiserror derives do not say which error `?` makes.
 impl From<SaveRefusal> for CopyRefusal {
-    ghost from_gives = { λ e r. r ≡ Save e };
+    ghost from_gives = { λ refusal answer. answer ≡ Save refusal };
 
-    fn from(e: SaveRefusal) -> CopyRefusal {
-        CopyRefusal::Save(e)
+    fn from(refusal: SaveRefusal) -> CopyRefusal {
+        CopyRefusal::Save(refusal)
     }
 }
 
 impl From<FileFault> for CopyRefusal {
-    ghost from_gives = { λ e r. r ≡ Load e };
+    ghost from_gives = { λ fault answer. answer ≡ Load fault };
 
-    fn from(e: FileFault) -> CopyRefusal {
-        CopyRefusal::Load(e)
+    fn from(fault: FileFault) -> CopyRefusal {
+        CopyRefusal::Load(fault)
     }
 }
 

@@ -31,6 +31,7 @@ impl SaveRefusal {
 }
 
 // Writes bytes where they fit, and answers the place behind them.
+// kept: output and place are handed on apart; a struct of both would ask for the same room in each call, and promise there too that it still holds the same output.
 fn paste(out: &mut [u8], place: usize, bytes: &[u8]) -> usize
     requires { place + length bytes.now ≤ length out.old }
     ensures place { result ≡ place + length bytes.now }
