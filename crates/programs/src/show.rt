@@ -4,7 +4,7 @@ ghost use Rattle.script.specs.Listing.{look_line, fault_line};
 ghost use Rattle.bookfile.specs.Files.{stated_lines};
 ghost use Rattle.survey.specs.Formats.{or_blank};
 ghost use Rattle.programs.specs.Shows.{Adds, book_lines, lines_or_fault, shown};
-ghost use Rattle.script.specs.BookFaults.{printed};
+ghost use Rattle.script.specs.declared.listing.Fault.TheVariants.{File};
 
 use crate::memory::NoMemory;
 use book::book::Book;
@@ -39,7 +39,7 @@ pub fn push_book<R: Row, B: Book<Value = R>>(out: &mut String, book: &B) -> Resu
 
 // Adds the fault of a file.
 fn push_fault(out: &mut String, fault: FileFault) -> Result<(), NoMemory>
-    ensures { OnOk result (Adds out.old (fault_line (printed fault)) out.new) }
+    ensures { OnOk result (Adds out.old (fault_line (File fault)) out.new) }
 {
     write!(out, "{}", Fault::from(fault))?;
     Ok(())

@@ -3,7 +3,6 @@ pub mod Cuts
 pub mod Faults
 pub mod Letters
 pub mod Listing
-pub mod BookFaults
 pub mod Numbers
 pub mod Readers
 pub mod Reading

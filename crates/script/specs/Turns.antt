@@ -4,16 +4,17 @@ use Rattle.calls.specs.declared.call.Call.{Call}
 use Rattle.script.specs.declared.fault.ListFault.{ListFault}
 use Rattle.script.specs.declared.fault.ListFault.TheVariants.{TooLong}
 use Rattle.script.specs.declared.listing.Fault.{Fault}
+use Rattle.script.specs.declared.listing.Fault.TheVariants.{Line}
 use Rattle.script.specs.declared.turns.Turns.{Turns}
 use Rattle.script.specs.Commands.{line_says}
 use Rattle.script.specs.Cuts.{lines_of, LinesOfBytes}
-use Rattle.script.specs.Faults.{most_bytes, on_line, LineFault}
+use Rattle.script.specs.Faults.{most_bytes, LineFault}
 use Rattle.script.specs.Readers.{lines_left}
 
 -- a call, or a fault that names its line
 abbrev pub numbered : ℕ → Result Call LineFault → Result Call Fault
 numbered n (Ok c) = Ok c
-numbered n (Err f) = Err (on_line n f)
+numbered n (Err f) = Err (Line n f)
 
 -- lines with their numbers, from n on
 abbrev pub items_from : ℕ → List (List ℕ) → List (Result Call Fault)

@@ -11,10 +11,12 @@ use crate::fault::{LineCause, LineFault};
 use crate::letter::Letter;
 use crate::reader::Reader;
 use crate::word::WordKind;
+use bookfile::fault::located;
 use calls::call::Call;
 use calls::order::Order;
 
-// How many spaces a line has. Summed, since `filter` and `count` take the bytes one by one and are slower by a tenth.
+// How many spaces a line has. Kept summed: by `filter` and `count` the benchmark of a whole list took 1.11 times as long as
+// plain Rust, above the 1.1 that it may take; so it takes 0.96 times as long.
 fn count_spaces(line: &[u8]) -> usize
     ensures { result ≡ count_by (λ b. b == 32) line.now }
 {
@@ -33,10 +35,7 @@ fn check_count(line: &[u8], letter: Letter) -> Result<(), LineFault>
     ensures { result ≡ counted line.now letter }
 {
     if count_words(line) != letter.number_count() + 1 {
-        return Err(LineFault {
-            place: line.len(),
-            cause: LineCause::WordCount,
-        });
+        return located(Err(LineCause::WordCount), line.len());
     }
     Ok(())
 }
@@ -48,10 +47,7 @@ fn first_letter(words: &mut Reader) -> Result<Letter, LineFault>
 {
     match words.word().map(|word| word.kind) {
         Some(WordKind::Letter(letter)) => Ok(letter),
-        _ => Err(LineFault {
-            place: 0,
-            cause: LineCause::UnknownLetter,
-        }),
+        _ => located(Err(LineCause::UnknownLetter), 0),
     }
 }
 
@@ -66,10 +62,7 @@ fn next_number(words: &mut Reader) -> Result<u32, LineFault>
     };
     match word.kind {
         WordKind::Number(number) => Ok(number),
-        WordKind::Letter(_) | WordKind::Other => Err(LineFault {
-            place: word.place,
-            cause: LineCause::NotNumber,
-        }),
+        WordKind::Letter(_) | WordKind::Other => located(Err(LineCause::NotNumber), word.place),
     }
 }
 
@@ -87,6 +80,7 @@ fn numbers<const N: usize>(words: &mut Reader) -> Result<[u32; N], LineFault>
 }
 
 // The call of a letter, from the words after it.
+// Kept three arms of one shape: `numbers::<1>(words).map(|[seat]| Call::Step { seat })` was tried, and none of its returns was proved.
 fn call_of(letter: Letter, words: &mut Reader) -> Result<Call, LineFault>
     requires { length (words_left words.old) ≡ numbers_after letter }
     ensures { result ≡ called letter (numbers_left words.old) }

@@ -14,6 +14,7 @@ pub enum Letter {
 }
 
 // The letter that a word is, which is then all of the word.
+// Kept beside the four letters of `fmt`: one table for both would be gone through for each word, where a match tells it at once.
 impl TryFrom<&[u8]> for Letter {
     type Error = LineCause;
 
