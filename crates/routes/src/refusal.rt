@@ -14,7 +14,7 @@ pub enum SearchRefusal {
 }
 
 impl SearchRefusal {
-    // The number by which the refusal is printed.
+    // The number by which the refusal is printed. Kept a method: `From` would read as if the number were the refusal.
     pub fn number(self) -> u32
         ensures { result ≡ number self }
     {

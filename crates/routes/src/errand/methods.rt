@@ -2,7 +2,7 @@
 ghost use Rattle.routes.specs.Errands.{Accepts};
 
 use super::Errand;
-use crate::family::MOST_LINES;
+use crate::family::MOST_SEARCHED;
 use calls::order::{BadOrder, Order};
 use survey::leg::LAST_STATION;
 
@@ -16,7 +16,7 @@ impl TryFrom<Order> for Errand {
         if order.kind > 0
             || order.a > LAST_STATION
             || order.b > LAST_STATION
-            || order.c > MOST_LINES
+            || order.c > MOST_SEARCHED
         {
             return Err(BadOrder);
         }
