@@ -129,9 +129,9 @@ impl Reach {
         ensures value { result ≡ nearest_of self.now.stations }
         ensures inside { Inside result }
     {
-        (0..STATIONS as u8).fold(
+        self.stations.iter().zip(0..STATIONS as u8).fold(
             None,
-            |best, number| self.station(number).nearer(number, best),
+            |best, (station, number)| station.nearer(number, best),
         )
     }
 }
