@@ -57,6 +57,7 @@ impl Station {
     }
 }
 
+// Stations are kept bytes: legs and the state of a job have them so, and a type of known stations would be made anew at each call.
 impl Reach {
     // No station is reached.
     fn nowhere() -> Reach
