@@ -67,7 +67,7 @@ fn next_number(words: &mut Words) -> Result<u32, LineFault>
 }
 
 // The numbers that the words to come are, as many as there are.
-// Kept a loop: in the closure of `array::try_from_fn` it is not known that a word is left, since each call moves the reader.
+// Kept a loop: in the closure of `array::try_from_fn` it is not known that a word is left, since each call reads one away.
 fn numbers<const N: usize>(words: &mut Words) -> Result<[u32; N], LineFault>
     requires { length (words_left words.old) ≡ N }
     ensures { result ≡ numbers_left words.old }
