@@ -15,9 +15,9 @@ fn number_of(answer: Result<Option<u32>, SearchRefusal>) -> u64
     ensures { result ≡ answer_number answer }
 {
     match answer {
-        Ok(Some(length)) => length as u64,
+        Ok(Some(length)) => u64::from(length),
         Ok(None) => NO_ROUTE,
-        Err(refusal) => NO_ROUTE + refusal.number() as u64,
+        Err(refusal) => NO_ROUTE + u64::from(refusal.number()),
     }
 }
 

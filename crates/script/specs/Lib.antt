@@ -4,7 +4,7 @@ pub mod Faults
 pub mod Letters
 pub mod Listing
 pub mod Numbers
-pub mod Readers
+pub mod Parts
 pub mod Reading
 pub mod Shown
 pub mod Turns

@@ -9,7 +9,7 @@ use Rattle.script.specs.declared.turns.Turns.{Turns}
 use Rattle.script.specs.Commands.{line_says}
 use Rattle.script.specs.Cuts.{lines_of, LinesOfBytes}
 use Rattle.script.specs.Faults.{most_bytes, LineFault}
-use Rattle.script.specs.Readers.{lines_left}
+use Rattle.script.specs.Parts.{lines_left}
 
 -- a call, or a fault that names its line
 abbrev pub numbered : ℕ → Result Call LineFault → Result Call Fault
@@ -27,7 +27,7 @@ items bytes = items_from 1 (lines_of bytes)
 
 -- what is still to come of a list
 abbrev pub items_left : Turns → List (Result Call Fault)
-items_left t = items_from (t.lines + 1) (lines_left t.reader)
+items_left t = items_from (t.count + 1) (lines_left t.lines)
 
 -- a list that is not too long, none of it read, and whose lines are its bytes
 abbrev pub Admitted : List ℕ → Result Turns ListFault → Type 0

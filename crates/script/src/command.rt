@@ -4,13 +4,13 @@ ghost use Rattle.script.specs.Commands.{counted, called, line_says};
 ghost use Rattle.script.specs.Cuts.{words, WordsOfLine};
 ghost use Rattle.script.specs.Letters.{numbers_after};
 ghost use Rattle.script.specs.Reading.{numbers_left, NextNumber, FirstLetter};
-ghost use Rattle.script.specs.Readers.{words_left};
+ghost use Rattle.script.specs.Parts.{words_left};
 ghost use Rattle.script.specs.Shown.{Told, ReadsBack};
 
 use crate::fault::{LineCause, LineFault};
 use crate::letter::Letter;
-use crate::reader::Reader;
 use crate::word::WordKind;
+use crate::words::Words;
 use bookfile::fault::located;
 use calls::call::Call;
 use calls::order::Order;
@@ -42,22 +42,22 @@ fn check_count(line: &[u8], letter: Letter) -> Result<(), LineFault>
 
 // The letter that the first word is.
 // Kept a match: a word without a letter and no word at all are the same fault.
-fn first_letter(words: &mut Reader) -> Result<Letter, LineFault>
+fn first_letter(words: &mut Words) -> Result<Letter, LineFault>
     ensures { FirstLetter words.old words.new result }
 {
-    match words.word().map(|word| word.kind) {
+    match words.next().map(|word| word.kind) {
         Some(WordKind::Letter(letter)) => Ok(letter),
         _ => located(Err(LineCause::UnknownLetter), 0),
     }
 }
 
 // The number that the next word is.
-fn next_number(words: &mut Reader) -> Result<u32, LineFault>
+fn next_number(words: &mut Words) -> Result<u32, LineFault>
     requires { 0 < length (words_left words.old) }
     ensures { NextNumber words.old words.new result }
 {
     // Kept: the words were counted, so that an error here would be one that no line has.
-    let Some(word) = words.word() else {
+    let Some(word) = words.next() else {
         unreachable()
     };
     match word.kind {
@@ -67,8 +67,8 @@ fn next_number(words: &mut Reader) -> Result<u32, LineFault>
 }
 
 // The numbers that the words to come are, as many as there are.
-// Kept a loop: in the closure of `array::try_from_fn` it is not known that a word is left, since each call moves the reader.
-fn numbers<const N: usize>(words: &mut Reader) -> Result<[u32; N], LineFault>
+// Kept a loop: in the closure of `array::try_from_fn` it is not known that a word is left, since each call reads one away.
+fn numbers<const N: usize>(words: &mut Words) -> Result<[u32; N], LineFault>
     requires { length (words_left words.old) ≡ N }
     ensures { result ≡ numbers_left words.old }
 {
@@ -81,7 +81,7 @@ fn numbers<const N: usize>(words: &mut Reader) -> Result<[u32; N], LineFault>
 
 // The call of a letter, from the words after it.
 // Kept three arms of one shape: `numbers::<1>(words).map(|[seat]| Call::Step { seat })` was tried, and none of its returns was proved.
-fn call_of(letter: Letter, words: &mut Reader) -> Result<Call, LineFault>
+fn call_of(letter: Letter, words: &mut Words) -> Result<Call, LineFault>
     requires { length (words_left words.old) ≡ numbers_after letter }
     ensures { result ≡ called letter (numbers_left words.old) }
 {
@@ -111,7 +111,7 @@ fn call_of(letter: Letter, words: &mut Reader) -> Result<Call, LineFault>
 fn read_call(line: &[u8]) -> Result<Call, LineFault>
     ensures { result ≡ line_says line.now }
 {
-    let mut words = Reader::new(line);
+    let mut words = Words::new(line);
     let letter = first_letter(&mut words)?;
     check_count(line, letter)?;
     call_of(letter, &mut words)
