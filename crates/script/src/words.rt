@@ -1,6 +1,6 @@
 // The words of a line, one by one.
-ghost use Rattle.std.specs.Prelude.{◌+◌, ◌^◌, ◌≤◌, length, IfSome};
-ghost use Rattle.std.proofs.Props.{props};
+ghost use Rattle.std.specs.Prelude.{◌+◌, ◌^◌, ◌≤◌, length};
+ghost use Rattle.std.specs.Option.{ForSome};
 
 mod methods;
 
@@ -9,5 +9,5 @@ mod methods;
 pub struct Words<'a> {
     left: Option<&'a [u8]>,
     place: usize,
-    ghost within: { IfSome left (λ bytes. place + length bytes.now ≤ 2 ^ 63) } by { Prim.hlevel props },
+    ghost within: { ForSome left (λ bytes. place + length bytes.now ≤ 2 ^ 63) },
 }
