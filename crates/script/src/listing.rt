@@ -15,6 +15,7 @@ use std::fmt;
 use survey::fault::ValueFault;
 
 // A line of a book, with the value that it holds.
+// Kept beside the writes of a job, which have a line and a value too, but are never shown.
 #[derive(Clone, Copy)]
 pub struct LookLine<V> {
     pub line: usize,
