@@ -10,7 +10,7 @@ use survey::leg::LegRow;
 
 const NO_ROUTE: u64 = 1 << 32;
 
-// The length, or above all lengths what else was answered. Kept a number: C calls this, and takes no enum.
+// The length, or above all lengths what else was answered. Kept a number: `route_length` hands it to C, which takes no Result.
 fn number_of(answer: Result<Option<u32>, SearchRefusal>) -> u64
     ensures { result ≡ answer_number answer }
 {

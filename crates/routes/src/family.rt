@@ -4,7 +4,7 @@ ghost use Rattle.routes.specs.Searches.{ending_of, route_family};
 
 use crate::errand::Errand;
 use crate::search::{Next, Search};
-use calls::ending::Ending;
+use calls::ending::{DONE, Ending};
 use calls::order::{BadOrder, Order};
 use jobs::family::Family;
 use jobs::request::Request;
@@ -13,10 +13,7 @@ use survey::leg::LegRow;
 // The most lines that are searched.
 pub const MOST_SEARCHED: u32 = 64;
 
-// A route was found, and the number is its length.
-pub const FOUND: u32 = 0;
-
-// There is no route; the number is 0.
+// The code of a search that found no route; the number is 0. With a route, it has done what was asked, and the number is its length.
 pub const NO_ROUTE: u32 = 1;
 
 // Kind 0 finds the least length of a route from station a to station b over the lines below c.
@@ -29,7 +26,7 @@ fn ending(found: Option<u32>) -> Ending
 {
     match found {
         Some(length) => Ending {
-            code: FOUND,
+            code: DONE,
             number: length,
         },
         None => Ending {

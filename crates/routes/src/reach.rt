@@ -57,7 +57,7 @@ impl Station {
     }
 }
 
-// Stations are kept bytes: legs and the state of a job have them so, and a type of known stations would be made anew at each call.
+// Stations are kept bytes: a state lies in memory that others could alter, so that it may hold any byte.
 impl Reach {
     // No station is reached.
     fn nowhere() -> Reach

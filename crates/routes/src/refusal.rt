@@ -3,7 +3,9 @@ ghost use Rattle.std.specs.Prelude.{◌≡◌};
 ghost use Rattle.routes.specs.Refusals.{number};
 ghost use Rattle.routes.specs.declared.refusal.SearchRefusal.TheVariants as refusal;
 
+use calls::ending::REFUSED;
 use calls::order::BadOrder;
+use calls::refusal::Refusal;
 
 #[derive(Clone, Copy, Debug, PartialEq, Eq)]
 pub enum SearchRefusal {
@@ -19,8 +21,8 @@ impl SearchRefusal {
         ensures { result ≡ number self }
     {
         match self {
-            SearchRefusal::BadOrder => 9,
-            SearchRefusal::NoLine => 4,
+            SearchRefusal::BadOrder => REFUSED,
+            SearchRefusal::NoLine => Refusal::NoLine.number(),
         }
     }
 }

@@ -11,7 +11,7 @@ use survey::row::Row;
 // What a search does next.
 #[derive(Clone, Copy)]
 pub enum Next {
-    // Reads a line, for the station that it is finishing.
+    // Reads a line, for the station that it is finishing. Kept a number and no `Range`: a state is copied, and a range is not.
     Line { station: u8, line: u8 },
     // With the least length, if there is a route.
     Ended(Option<u32>),

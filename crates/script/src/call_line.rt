@@ -7,7 +7,7 @@ use calls::order::Order;
 use std::fmt;
 
 // The line that is read as this call, without its newline.
-// Kept a struct: a call is another crate's type, for which no trait of std is implemented here.
+// Kept a struct: with `Display` in `calls` the text of the turn list would stand there too.
 #[derive(Clone, Copy)]
 pub struct CallLine(pub Call);
 

@@ -56,10 +56,7 @@ fn next_number(words: &mut Words) -> Result<u32, LineFault>
     requires { 0 < length (words_left words.old) }
     ensures { NextNumber words.old words.new result }
 {
-    // Kept: the words were counted, so that an error here would be one that no line has.
-    let Some(word) = words.next() else {
-        unreachable()
-    };
+    let word = words.next().unwrap();
     match word.kind {
         WordKind::Number(number) => Ok(number),
         WordKind::Letter(_) | WordKind::Other => located(Err(LineCause::NotNumber), word.place),

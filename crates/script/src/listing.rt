@@ -40,6 +40,7 @@ pub enum Fault {
     // A turn list is faulty as a whole.
     List(ListFault),
     // A line of a turn list is faulty. Lines are numbered from 1; a line 0 is none, and prints as the whole input.
+    // Kept a plain number: who counts the lines would have to make a `NonZero` of each count.
     Line { line: usize, fault: LineFault },
 }
 
@@ -115,7 +116,7 @@ impl fmt::Display for Fault {
     }
 }
 
-// The words of an answer, inside a line. Kept a struct: an answer is another crate's type, for which no trait of std is implemented here.
+// The words of an answer, inside a line. Kept a struct: with `Display` in `calls` the text of the listing would stand there too.
 #[derive(Clone, Copy)]
 struct AnswerWords(Answer);
 

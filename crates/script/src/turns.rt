@@ -7,7 +7,7 @@ use crate::lines::Lines;
 mod methods;
 
 // The lines that are left, and how many were read.
-// Kept a count and no `Enumerate`: what is left of a list is said by its lines, and that type would say it by what it gave.
+// Kept a count and no `Enumerate` (not tried): what is left is said by the lines alone, and one more field is plain.
 #[derive(Drop)]
 pub struct Turns<'a> {
     lines: Lines<'a>,

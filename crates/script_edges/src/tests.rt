@@ -126,7 +126,7 @@ fn calls_and_their_lines(rt: HostRuntime) -> Result<(), Fail> {
     Ok(())
 }
 
-// The place and the number of a line's fault; a call has none.
+// The place and the number of a line's fault; a call has none. Kept numbers: the tables keep the values that they had.
 fn fault_of(line: &[u8]) -> (usize, u32) {
     match call_in(line) {
         Ok(_) => (0, 0),

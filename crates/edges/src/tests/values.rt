@@ -3,7 +3,7 @@ use survey::leg::{Leg, LegRow};
 use survey::metres::{Metres, MetresRow};
 use survey::row::Row;
 
-// The number of the fault of four numbers, or 0 where they are a leg.
+// The number of the fault of four numbers, or 0 where they are a leg. Kept a number: the tables keep the values that they had.
 fn leg_fault(from: u32, to: u32, passage: u32, length: u32) -> u32 {
     Leg::new(from, to, passage, length)
         .err()

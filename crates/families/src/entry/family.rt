@@ -27,7 +27,7 @@ impl Family for Entry {
     ghost meaning = { λ _. entry };
 
     fn start(&self, order: Order) -> Self::State {
-        // kept a number: each family has its own kinds, and one that stands beside another counts on from that one's, so no enum names them all
+        // Kept a number: an enum of the two kinds would be matched right where it is made.
         match order.kind {
             0 => {
                 let leg = Leg::open(order.b, order.c, order.d)?;

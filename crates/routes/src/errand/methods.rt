@@ -20,6 +20,7 @@ impl TryFrom<Order> for Errand {
         {
             return Err(BadOrder);
         }
+        // Kept casts: after these tests nothing is lost, and `u8::try_from` would answer an error that cannot come.
         Ok(Errand {
             from: order.a as u8,
             to: order.b as u8,
