@@ -28,7 +28,7 @@ fn sum_of_item(item: Result<Call, Fault>) -> u64
     }
 }
 
-// All numbers of a turn list together, within 64 bits. A list that is too long has none.
+// All numbers of a turn list together, within 64 bits. A list that is too long has none: kept 0, since C takes no Option.
 #[unsafe(no_mangle)]
 pub extern "C" fn list_sum(bytes: &[u8]) -> u64
     ensures { result ≡ list_sum bytes.now }
@@ -39,7 +39,7 @@ pub extern "C" fn list_sum(bytes: &[u8]) -> u64
     turns.fold(0, |sum: u64, item| sum.wrapping_add(sum_of_item(item)))
 }
 
-// The number that a word is, or the largest of 64 bits.
+// The number that a word is, or the largest of 64 bits: kept a number, since C takes no Option.
 #[unsafe(no_mangle)]
 pub extern "C" fn word_number(word: &[u8]) -> u64
     ensures { result ≡ number_or_none (number_of word.now) }

@@ -10,14 +10,14 @@ use survey::leg::LegRow;
 
 const NO_ROUTE: u64 = 1 << 32;
 
-// The length, or above all lengths what else was answered.
+// The length, or above all lengths what else was answered. Kept a number: `route_length` hands it to C, which takes no Result.
 fn number_of(answer: Result<Option<u32>, SearchRefusal>) -> u64
     ensures { result ≡ answer_number answer }
 {
     match answer {
-        Ok(Some(length)) => length as u64,
+        Ok(Some(length)) => u64::from(length),
         Ok(None) => NO_ROUTE,
-        Err(refusal) => NO_ROUTE + refusal.number() as u64,
+        Err(refusal) => NO_ROUTE + u64::from(refusal.number()),
     }
 }
 

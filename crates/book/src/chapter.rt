@@ -1,5 +1,5 @@
 // A part of a book, itself a book.
-ghost use Rattle.std.specs.Prelude.{◌≡◌, ◌+◌, ◌≤◌, min, length};
+ghost use Rattle.std.specs.Prelude.{◌≡◌, ◌+◌, ◌-◌, ◌≤◌, min, length};
 ghost use Rattle.book.specs.Books.{Writes};
 ghost use Rattle.book.specs.Chapters.{part, lines_of, WrittenBelow, IsPart, FindsBelow};
 
@@ -19,6 +19,18 @@ pub struct Chapter<B> {
 struct Extent {
     start: usize,
     size: usize,
+}
+
+// Where at most `count` lines lie among `size` of them, from line `first` on.
+fn clip(first: usize, count: usize, size: usize) -> Extent
+    ensures start { result.start ≡ min first size }
+    ensures size { result.size ≡ min count (size - min first size) }
+{
+    let start = first.min(size);
+    Extent {
+        start,
+        size: count.min(size - start),
+    }
 }
 
 impl<B: Book> Chapter<B> {
@@ -60,23 +72,18 @@ impl<B: Book> Chapter<B> {
         ensures bound { result.start + result.size ≤ 1024 }
         ensures part { IsPart self.now.first self.now.count (B.lines self.now.below) (lines_of B.lines self.now) }
     {
-        let size = self.below.size();
-        let start = self.first.min(size);
-        Extent {
-            start,
-            size: self.count.min(size - start),
-        }
+        clip(self.first, self.count, self.below.size())
     }
 
     // Where a part of the chapter lies in the book below.
     fn part_extent(&self, first: usize, count: usize) -> Extent
         ensures { part result.start result.size (B.lines self.now.below) ≡ part first count (lines_of B.lines self.now) }
     {
-        let Extent { start, size } = self.extent();
-        let skipped = first.min(size);
+        let outer = self.extent();
+        let inner = clip(first, count, outer.size);
         Extent {
-            start: start + skipped,
-            size: count.min(size - skipped),
+            start: outer.start + inner.start,
+            size: inner.size,
         }
     }
 
@@ -97,6 +104,11 @@ impl<B: Book> Book for Chapter<B> {
     type Value = B::Value;
 
     ghost lines = { lines_of B.Book.lines };
+
+    ghost use Rattle.std.proofs.Common.{arith};
+    ghost use Rattle.std.proofs.lemmas.List.{length-take, length-drop};
+
+    ghost few = { λ c. Prim.simp (length-take, length-drop) (Prim.omega (arith, B.Book.few c.below)) };
 
     fn size(&self) -> usize
         ensures value { result ≡ length (lines_of B.Book.lines self.now) }

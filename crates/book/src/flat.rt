@@ -1,5 +1,5 @@
 // A book over lent memory of values.
-ghost use Rattle.std.specs.Prelude.{◌≡◌, ◌≤◌, length, take};
+ghost use Rattle.std.specs.Prelude.{◌≡◌, ◌≤◌, min, length, take};
 ghost use Rattle.book.specs.Books.{Writes};
 ghost use Rattle.book.specs.Chapters.{WrittenBelow};
 
@@ -21,12 +21,19 @@ impl<'a, V: Copy> FlatBook<'a, V> {
     }
 }
 
+// How many places of the memory are lines.
+fn line_count<V: Copy>(memory: &[V]) -> usize
+    ensures { result ≡ min 1024 (length memory.now) }
+{
+    MOST_LINES.min(memory.len())
+}
+
 // The places of the memory that are lines.
 fn line_places<V: Copy>(memory: &[V]) -> &[V]
     ensures value { result.now ≡ take 1024 memory.now }
     ensures bound { length result.now ≤ 1024 }
 {
-    &memory[..MOST_LINES.min(memory.len())]
+    &memory[..line_count(memory)]
 }
 
 // Gives one place a new value, where the memory has it.
@@ -45,7 +52,7 @@ fn write_line<V: Copy>(memory: &mut [V], line: usize, value: V) -> Result<(), Bo
     ensures lines { Writes (take 1024 memory.old) line value (take 1024 memory.new) result }
     ensures places { WrittenBelow 0 memory.old line value memory.new result }
 {
-    let lines = MOST_LINES.min(memory.len());
+    let lines = line_count(memory);
     put(&mut memory[..lines], line, value)
 }
 
@@ -53,6 +60,11 @@ impl<'a, V: Copy> Book for FlatBook<'a, V> {
     type Value = V;
 
     ghost lines = { λ b. take 1024 b.memory.now };
+
+    ghost use Rattle.std.proofs.Common.{arith};
+    ghost use Rattle.std.proofs.lemmas.List.{length-take};
+
+    ghost few = { λ b. Prim.simp length-take (Prim.omega arith) };
 
     fn size(&self) -> usize {
         line_places(self.memory).len()

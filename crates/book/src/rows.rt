@@ -18,8 +18,7 @@ impl<'a, B: Book> Rows<'a, B> {
 
     // The values of all lines.
     pub fn new(book: &'a B) -> Rows<'a, B>
-        ensures lines { rows_left result ≡ B.lines book.now }
-        ensures few { length (B.lines book.now) ≤ 1024 }
+        ensures { rows_left result ≡ B.lines book.now }
     {
         Rows {
             book,

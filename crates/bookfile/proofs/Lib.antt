@@ -1,5 +1,5 @@
 pub mod PairFaults
-pub mod Loading
+pub mod Walk
 pub mod Exact
 pub mod Saving
 pub mod Kept

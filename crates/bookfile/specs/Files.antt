@@ -1,11 +1,12 @@
 -- The layout of a book file, and the first fault of some bytes that should be one.
-use Rattle.std.specs.Prelude.{◌≡◌, ℕ, zero, suc, ◌+◌, ◌*◌, min, Bool, true, false, cond, not, List, [], ◌∷◌, length, drop, Some, None, Ok, Err, Option, Result, ◌==◌, nat_le, nat_lt}
+use Rattle.std.specs.Prelude.{◌≡◌, ℕ, zero, suc, ◌+◌, ◌-◌, ◌*◌, min, Bool, true, false, cond, not, List, [], ◌∷◌, length, drop, Some, None, Ok, Err, Option, Result, ◌==◌, nat_le, nat_lt}
 use Rattle.std.specs.Option.{option_or}
 use Rattle.survey.specs.declared.fault.ValueFault.{ValueFault}
 use Rattle.survey.specs.Bytes.{two}
 use Rattle.survey.specs.Formats.{Format}
 use Rattle.bookfile.specs.declared.fault.FileCause.{FileCause}
 use Rattle.bookfile.specs.declared.fault.FileCause.TheVariants.{Short, Lines, Pairs, Length, Line, Value}
+use Rattle.bookfile.specs.declared.pair.Pair.{Pair}
 use Rattle.bookfile.specs.Faults.{FileFault}
 
 -- n, then m: two bytes each
@@ -53,10 +54,26 @@ module _ {R : Type 0} (f : Format R) where
   abbrev pub row_of : ℕ → List ℕ → ℕ → R
   row_of m bs i = f.decoded (drop (value_place m i) bs)
 
-  -- first the line of pair i, then its value
+  -- pair i: where its line number and its value stand, and what they are
+  abbrev pub pair_of : ℕ → List ℕ → ℕ → Pair R
+  pair_of m bs i = record { line_place = line_place i; value_place = value_place m i; line = line_of bs i; row = row_of m bs i }
+
+  -- k pairs, from pair i on
+  unfoldable pub pairs_from : ℕ → List ℕ → ℕ → ℕ → List (Pair R)
+  pairs_from m bs i zero = []
+  pairs_from m bs i (suc k) = pair_of m bs i ∷ pairs_from m bs (i + 1) k
+
+  -- those from pair i up to pair e
+  abbrev pub pairs_between : ℕ → List ℕ → ℕ → ℕ → List (Pair R)
+  pairs_between m bs i e = pairs_from m bs i (e - i)
+
+  -- first the line of a pair, then its value
+  abbrev pub fault_of : ℕ → Pair R → Option FileFault
+  fault_of n pair =
+      first_of (fault_where (nat_le n pair.line) pair.line_place Line ∷ value_fault pair.value_place (f.fault pair.row) ∷ [])
+
   abbrev pub pair_fault : ℕ → ℕ → List ℕ → ℕ → Option FileFault
-  pair_fault n m bs i =
-      first_of (fault_where (nat_le n (line_of bs i)) (line_place i) Line ∷ value_fault (value_place m i) (f.fault (row_of m bs i)) ∷ [])
+  pair_fault n m bs i = fault_of n (pair_of m bs i)
 
   -- the first fault of k pairs, from pair i on
   unfoldable pub pairs_fault : ℕ → ℕ → List ℕ → ℕ → ℕ → Option FileFault

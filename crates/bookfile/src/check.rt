@@ -1,9 +1,11 @@
 // The check of a whole book file, before anything is written.
-ghost use Rattle.std.specs.Prelude.{◌≡◌, ℕ, ◌<◌, ◌≤◌, length, IfOk};
+ghost use Rattle.std.specs.Prelude.{◌≡◌, ℕ, ◌≤◌, length, IfOk};
 ghost use Rattle.bookfile.specs.Meanings.{Exactly};
-ghost use Rattle.bookfile.specs.Files.{pair_fault, pairs_fault, file_fault, stated_lines, Tells, TellsCause};
+ghost use Rattle.bookfile.specs.Files.{fault_of, pairs_fault, file_fault, stated_lines, Tells, TellsCause};
 
+use crate::bytes::number;
 use crate::fault::{FileCause, FileFault, located};
+use crate::pair::Pair;
 use crate::pairs::Pairs;
 use book::book::MOST_LINES;
 use survey::row::Row;
@@ -14,7 +16,7 @@ pub fn stated_lines(bytes: &[u8]) -> usize
     ensures bound { result ≤ 1024 }
 {
     match bytes {
-        [low, high, ..] => MOST_LINES.min(u16::from_le_bytes([*low, *high]) as usize),
+        [low, high, ..] => MOST_LINES.min(number(*low, *high)),
         _ => 0,
     }
 }
@@ -27,24 +29,25 @@ fn check_row<R: Row>(row: R) -> Result<(), FileCause>
     Ok(())
 }
 
-impl<'a, R: Row> Pairs<'a, R> {
-    // Whether a pair names a line below `lines` and holds a value.
-    fn check_pair(&self, lines: usize, pair: usize) -> Result<(), FileFault>
-        requires { pair < self.now.count }
-        ensures { Tells (pair_fault R.Row.format lines self.now.count self.now.bytes.now pair) result }
+impl<R: Row> Pair<R> {
+    // Whether the pair names a line below `lines` and holds a value.
+    fn check(self, lines: usize) -> Result<(), FileFault>
+        ensures { Tells (fault_of R.Row.format lines self) result }
     {
-        if self.line(pair) >= lines {
-            return located(Err(FileCause::Line), self.line_place(pair));
+        if self.line >= lines {
+            return located(Err(FileCause::Line), self.line_place);
         }
-        located(check_row(self.row(pair)), self.value_place(pair))
+        located(check_row(self.row), self.value_place)
     }
+}
 
+impl<'a, R: Row> Pairs<'a, R> {
     // Whether each pair does.
     fn check(&self, lines: usize) -> Result<(), FileFault>
         ensures { Tells (pairs_fault R.Row.format lines self.now.count self.now.bytes.now 0 self.now.count) result }
     {
-        for pair in 0..self.count() {
-            self.check_pair(lines, pair)?;
+        for pair in self.iter() {
+            pair.check(lines)?;
         }
         Ok(())
     }

@@ -17,31 +17,19 @@ pub enum CopyRefusal {
 
 // kept: both conversions are written by hand, since those that thiserror derives do not say which error `?` makes.
 impl From<SaveRefusal> for CopyRefusal {
-    ghost from_gives = { λ e r. r ≡ Save e };
+    ghost from_gives = { λ refusal answer. answer ≡ Save refusal };
 
-    fn from(e: SaveRefusal) -> CopyRefusal {
-        CopyRefusal::Save(e)
+    fn from(refusal: SaveRefusal) -> CopyRefusal {
+        CopyRefusal::Save(refusal)
     }
 }
 
 impl From<FileFault> for CopyRefusal {
-    ghost from_gives = { λ e r. r ≡ Load e };
+    ghost from_gives = { λ fault answer. answer ≡ Load fault };
 
-    fn from(e: FileFault) -> CopyRefusal {
-        CopyRefusal::Load(e)
+    fn from(fault: FileFault) -> CopyRefusal {
+        CopyRefusal::Load(fault)
     }
-}
-
-fn save_and_load<R: Row, B: Book<Value = R>, C: Book<Value = R>>(
-    from: &B,
-    file: &mut [u8],
-    to: &mut C,
-) -> Result<(), CopyRefusal>
-    ensures { Copies R.Row.format (B.Book.lines from.now) (length file.old) (C.Book.lines to.old) (C.Book.lines to.new) result }
-{
-    let size = save(from, file)?;
-    load(&file[0..size], to)?;
-    Ok(())
 }
 
 // Saves `from` into `file` and loads that into `to`, which then has the same lines.
@@ -52,5 +40,7 @@ pub fn copy<R: Row, B: Book<Value = R>, C: Book<Value = R>>(
 ) -> Result<(), CopyRefusal>
     ensures { Copies R.Row.format (B.Book.lines from.now) (length file.old) (C.Book.lines to.old) (C.Book.lines to.new) result }
 {
-    save_and_load(from, file, to)
+    let size = save(from, file)?;
+    load(&file[0..size], to)?;
+    Ok(())
 }

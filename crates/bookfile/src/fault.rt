@@ -56,7 +56,7 @@ impl FileCause {
 }
 
 impl From<ValueFault> for FileCause {
-    ghost from_gives = { λ fault r. r ≡ Value fault };
+    ghost from_gives = { λ fault cause. cause ≡ Value fault };
 
     fn from(fault: ValueFault) -> FileCause {
         FileCause::Value(fault)

@@ -6,6 +6,7 @@ mod check;
 pub mod copy;
 pub mod fault;
 pub mod load;
+mod pair;
 mod pairs;
 pub mod save;
 

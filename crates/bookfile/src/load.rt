@@ -1,6 +1,5 @@
 // Loads a book file into a book.
-ghost use Rattle.std.specs.Prelude.{◌≡◌, ◌<◌, length, slice_set};
-ghost use Rattle.bookfile.specs.Files.{line_of, row_of};
+ghost use Rattle.std.specs.Prelude.{◌≡◌, length};
 ghost use Rattle.bookfile.specs.Loads.{loaded, Loads};
 ghost use Rattle.bookfile.specs.Meanings.{Exactly};
 
@@ -11,20 +10,12 @@ use book::book::Book;
 use survey::row::Row;
 
 impl<'a, R: Row> Pairs<'a, R> {
-    // Writes one pair to its line, where the book has that line.
-    fn load_pair<B: Book<Value = R>>(&self, pair: usize, book: &mut B)
-        requires { pair < self.now.count }
-        ensures { B.Book.lines book.new ≡ slice_set (B.Book.lines book.old) (line_of self.now.bytes.now pair) (row_of R.Row.format self.now.count self.now.bytes.now pair) }
-    {
-        let _ = book.write(self.line(pair), self.row(pair));
-    }
-
-    // Writes each pair, in order.
+    // Writes each pair to its line, in order, where the book has that line.
     fn load<B: Book<Value = R>>(&self, book: &mut B)
         ensures { B.Book.lines book.new ≡ loaded R.Row.format self.now.count self.now.bytes.now 0 self.now.count (B.Book.lines book.old) }
     {
-        for pair in 0..self.count() {
-            self.load_pair(pair, book);
+        for pair in self.iter() {
+            let _ = book.write(pair.line, pair.row);
         }
     }
 }

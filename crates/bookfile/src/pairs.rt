@@ -1,10 +1,13 @@
 // The pairs of a book file whose head is right.
-ghost use Rattle.std.specs.Prelude.{◌≡◌, ◌+◌, ◌<◌, ◌≤◌, length, IfOk};
-ghost use Rattle.bookfile.specs.Files.{pair_count, line_place, value_place, line_of, row_of, file_size, head_fault, Tells};
+ghost use Rattle.std.specs.Prelude.{◌≡◌, ◌≤◌, length, IfOk};
+ghost use Rattle.std.specs.Iterator.{YieldsFirst, item_count};
+ghost use Rattle.bookfile.specs.Files.{pair_count, pairs_between, file_size, head_fault, Tells};
 
 use crate::bytes::two_at;
 use crate::fault::{FileCause, FileFault, located};
+use crate::pair::Pair;
 use std::marker::PhantomData;
+use std::ops::Range;
 use survey::row::Row;
 
 // n and m, two bytes each.
@@ -58,46 +61,44 @@ impl<'a, R: Row> Pairs<'a, R> {
         })
     }
 
-    // How many pairs there are.
-    pub(crate) fn count(&self) -> usize
-        ensures { result ≡ self.now.count }
+    // The pairs, in order.
+    pub(crate) fn iter(&self) -> PairIter<'_, 'a, R>
+        ensures { pairs_between R.Row.format result.pairs.now.count result.pairs.now.bytes.now result.numbers.start result.numbers.end ≡ pairs_between R.Row.format self.now.count self.now.bytes.now 0 self.now.count }
     {
-        self.count
+        PairIter {
+            pairs: self,
+            numbers: 0..self.count,
+        }
     }
+}
 
-    // The place of the line number of a pair.
-    pub(crate) fn line_place(&self, pair: usize) -> usize
-        requires { pair < self.now.count }
-        ensures value { result ≡ line_place pair }
-        ensures within { result + 2 ≤ length self.now.bytes.now }
-    {
-        HEAD + 2 * pair
-    }
+// Yields the pairs whose numbers are left.
+#[derive(Drop)]
+pub(crate) struct PairIter<'p, 'a, R: Row> {
+    pairs: &'p Pairs<'a, R>,
+    numbers: Range<usize>,
+    ghost to_the_end: { numbers.end ≡ pairs.now.count },
+}
 
-    // The place of the value of a pair.
-    pub(crate) fn value_place(&self, pair: usize) -> usize
-        requires { pair < self.now.count }
-        ensures value { result ≡ value_place R.Row.format self.now.count pair }
-        ensures within { result + R.Row.format.width ≤ length self.now.bytes.now }
-    {
-        HEAD + 2 * self.count + R::WIDTH * pair
-    }
+impl<'p, 'a, R: Row> Iterator for PairIter<'p, 'a, R> {
+    type Item = Pair<R>;
 
-    // The line of a pair.
-    pub(crate) fn line(&self, pair: usize) -> usize
-        requires { pair < self.now.count }
-        ensures { result ≡ line_of self.now.bytes.now pair }
-    {
-        two_at(self.bytes, self.line_place(pair))
-    }
+    ghost next_gives = { YieldsFirst (λ it. pairs_between R.Row.format it.pairs.now.count it.pairs.now.bytes.now it.numbers.start it.numbers.end) };
 
-    // The row of a pair.
-    pub(crate) fn row(&self, pair: usize) -> R
-        requires { pair < self.now.count }
-        ensures { result ≡ row_of R.Row.format self.now.count self.now.bytes.now pair }
-    {
-        let (_, bytes) = self.bytes.split_at(self.value_place(pair));
-        let (row, _) = R::decode(bytes).unwrap();
-        row
+    ghost remaining = { item_count (λ it. pairs_between R.Row.format it.pairs.now.count it.pairs.now.bytes.now it.numbers.start it.numbers.end) };
+
+    fn next(&mut self) -> Option<Pair<R>> {
+        let number = self.numbers.next()?;
+        let Pairs { bytes, count, .. } = *self.pairs;
+        let line_place = HEAD + 2 * number;
+        let value_place = HEAD + 2 * count + R::WIDTH * number;
+        let (_, values) = bytes.split_at(value_place);
+        let (row, _) = R::decode(values).unwrap();
+        Some(Pair {
+            line_place,
+            value_place,
+            line: two_at(bytes, line_place),
+            row,
+        })
     }
 }

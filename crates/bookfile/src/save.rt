@@ -31,6 +31,7 @@ impl SaveRefusal {
 }
 
 // Writes bytes where they fit, and answers the place behind them.
+// kept: output and place are handed on apart; a struct of both would ask for the same room in each call, and promise there too that it still holds the same output.
 fn paste(out: &mut [u8], place: usize, bytes: &[u8]) -> usize
     requires { place + length bytes.now ≤ length out.old }
     ensures place { result ≡ place + length bytes.now }
@@ -86,7 +87,6 @@ fn put_value<R: Row>(row: R, out: &mut [u8], place: usize) -> usize
 fn saved_size<R: Row, B: Book<Value = R>>(book: &B) -> usize
     ensures value { result ≡ length (file_of R.Row.format (B.Book.lines book.now)) }
     ensures stated { result ≡ file_size R.Row.format (length (B.Book.lines book.now)) }
-    ensures few { length (B.Book.lines book.now) ≤ 1024 }
 {
     file_size::<R>(book.size())
 }
@@ -107,7 +107,6 @@ fn put_file<R: Row, B: Book<Value = R>>(book: &B, out: &mut [u8])
 pub fn save<R: Row, B: Book<Value = R>>(book: &B, out: &mut [u8]) -> Result<usize, SaveRefusal>
     ensures saves { Saves R.Row.format (B.Book.lines book.now) out.old out.new result }
     ensures keeps { IfOk result (λ size. KeepsLines R.Row.format (B.Book.lines book.now) (take size out.new)) }
-    ensures few { length (B.Book.lines book.now) ≤ 1024 }
 {
     let size = saved_size(book);
     if size > out.len() {

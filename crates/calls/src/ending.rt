@@ -4,6 +4,12 @@ ghost use Rattle.calls.specs.Endings.{bad_ending};
 
 use crate::order::BadOrder;
 
+// The code of a job that did what it was asked.
+pub const DONE: u32 = 0;
+
+// The code of an order that no job can be made of, in every family.
+pub const REFUSED: u32 = 9;
+
 #[derive(Clone, Copy, Debug, PartialEq, Eq)]
 pub struct Ending {
     // Kept a number: each family has its own codes, and a session hands them on unread.
@@ -11,11 +17,14 @@ pub struct Ending {
     pub number: u32,
 }
 
-// A bad order is answered 9, whatever the family.
+// A bad order is refused alike, whatever the family.
 impl From<BadOrder> for Ending {
     ghost from_gives = { λ _ ending. ending ≡ bad_ending };
 
     fn from(_bad: BadOrder) -> Ending {
-        Ending { code: 9, number: 0 }
+        Ending {
+            code: REFUSED,
+            number: 0,
+        }
     }
 }

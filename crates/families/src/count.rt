@@ -6,6 +6,7 @@ mod family;
 pub struct Count;
 
 // The line is to be read, unless it is the end; the lines before it have so many metres.
+// Kept two numbers and no `Range`: a state is copied, and a range is not.
 #[derive(Clone, Copy)]
 pub struct Tally {
     line: u32,

@@ -24,6 +24,7 @@ pub enum TransferState {
         held: u32,
     },
     // The first line is to be written with what is left, and then the second with its total.
+    // Kept four numbers and not two writes: their names say which line gets what.
     Taking {
         from: u32,
         left: u32,

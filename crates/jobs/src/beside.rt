@@ -32,14 +32,10 @@ impl<F: Family, G: Family<Value = F::Value>> Family for Beside<F, G> {
     ghost meaning = { λ s. beside (F.Family.meaning s.first) (G.Family.meaning s.second) };
 
     fn start(&self, order: Order) -> Self::State {
-        if order.kind == 0 {
-            return Left(self.first.start(order));
+        match order.kind.checked_sub(1) {
+            None => Left(self.first.start(order)),
+            Some(kind) => Right(self.second.start(Order { kind, ..order })),
         }
-        let lowered = Order {
-            kind: order.kind - 1,
-            ..order
-        };
-        Right(self.second.start(lowered))
     }
 
     fn request(&self, state: Self::State) -> Request<Self::Value> {

@@ -6,6 +6,7 @@ use crate::request::Request;
 use calls::order::Order;
 
 // A family means four functions; its calls answer exactly these.
+// Kept plain data and no closures: a state is copied, so that a job can go back to it.
 pub trait Family {
     // All that a job goes on with.
     type State: Copy;

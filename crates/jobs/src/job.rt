@@ -5,6 +5,7 @@ use std::marker::Model;
 mod methods;
 
 // Its state, and its writes, the oldest first: 16 at most, for which there is room from the start.
+// Kept a list and no map: two writes to a line are two, and go into the book in their order.
 #[derive(Drop)]
 pub struct Job<S, V> {
     state: S,

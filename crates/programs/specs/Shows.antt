@@ -1,11 +1,15 @@
 -- What showing a book file prints.
-use Rattle.std.specs.Prelude.{ℕ, ◌+◌, List, [], ◌∷◌, ◌++◌, length, replicate, Some, None, Option}
+use Rattle.std.specs.Prelude.{◌≡◌, ℕ, ◌+◌, List, [], ◌∷◌, ◌++◌, length, replicate, Some, None, Option, String, string_bytes}
 use Rattle.survey.specs.Formats.{Format, or_blank}
 use Rattle.bookfile.specs.Faults.{FileFault}
 use Rattle.bookfile.specs.Files.{stated_lines, file_fault, pair_count}
 use Rattle.bookfile.specs.Loads.{loaded}
-use Rattle.script.specs.BookFaults.{printed}
+use Rattle.script.specs.declared.listing.Fault.TheVariants.{File}
 use Rattle.script.specs.Listing.{look_line, fault_line}
+
+-- the text afterwards is the text before with some bytes behind it
+abbrev pub Adds : {A : Type 0} → String A → List ℕ → String A → Type 0
+Adds before bytes after = string_bytes after ≡ string_bytes before ++ bytes
 
 module _ {R : Type 0} (f : Format R) where
   -- lines from number i on, as looking at each prints it
@@ -15,7 +19,7 @@ module _ {R : Type 0} (f : Format R) where
 
   abbrev pub unless_fault : Option FileFault → List R → List ℕ
   unless_fault None lines = book_lines 0 lines
-  unless_fault (Some e) lines = fault_line (printed e)
+  unless_fault (Some e) lines = fault_line (File e)
 
   -- every line of the book into which the file was loaded, or the fault and nothing else
   abbrev pub lines_or_fault : List ℕ → List R → List ℕ

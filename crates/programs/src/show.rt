@@ -1,10 +1,10 @@
 // Shows a book file: the lines of the book that it makes, or its fault.
-ghost use Rattle.std.specs.Prelude.{◌≡◌, ◌++◌, take, replicate, IfOk, string_bytes, OnOk};
+ghost use Rattle.std.specs.Prelude.{◌≡◌, take, replicate, IfOk, string_bytes, OnOk};
 ghost use Rattle.script.specs.Listing.{look_line, fault_line};
 ghost use Rattle.bookfile.specs.Files.{stated_lines};
 ghost use Rattle.survey.specs.Formats.{or_blank};
-ghost use Rattle.programs.specs.Shows.{book_lines, lines_or_fault, shown};
-ghost use Rattle.script.specs.BookFaults.{printed};
+ghost use Rattle.programs.specs.Shows.{Adds, book_lines, lines_or_fault, shown};
+ghost use Rattle.script.specs.declared.listing.Fault.TheVariants.{File};
 
 use crate::memory::NoMemory;
 use book::book::Book;
@@ -20,7 +20,7 @@ use survey::row::Row;
 
 // Adds a line of the book, as looking at it prints it.
 fn push_line<R: Row>(out: &mut String, line: usize, row: R) -> Result<(), NoMemory>
-    ensures { OnOk result (string_bytes out.new ≡ string_bytes out.old ++ look_line line (R.Row.format.text (or_blank R.Row.format row))) }
+    ensures { OnOk result (Adds out.old (look_line line (R.Row.format.text (or_blank R.Row.format row))) out.new) }
 {
     let value = row.or_blank();
     write!(out, "{}", LookLine { line, value })?;
@@ -29,7 +29,7 @@ fn push_line<R: Row>(out: &mut String, line: usize, row: R) -> Result<(), NoMemo
 
 // Adds every line of a book.
 pub fn push_book<R: Row, B: Book<Value = R>>(out: &mut String, book: &B) -> Result<(), NoMemory>
-    ensures { OnOk result (string_bytes out.new ≡ string_bytes out.old ++ book_lines R.Row.format 0 (B.Book.lines book.now)) }
+    ensures { OnOk result (Adds out.old (book_lines R.Row.format 0 (B.Book.lines book.now)) out.new) }
 {
     for (line, row) in Rows::new(book).enumerate() {
         push_line(out, line, row)?;
@@ -39,7 +39,7 @@ pub fn push_book<R: Row, B: Book<Value = R>>(out: &mut String, book: &B) -> Resu
 
 // Adds the fault of a file.
 fn push_fault(out: &mut String, fault: FileFault) -> Result<(), NoMemory>
-    ensures { OnOk result (string_bytes out.new ≡ string_bytes out.old ++ fault_line (printed fault)) }
+    ensures { OnOk result (Adds out.old (fault_line (File fault)) out.new) }
 {
     write!(out, "{}", Fault::from(fault))?;
     Ok(())
@@ -49,6 +49,7 @@ fn push_fault(out: &mut String, fault: FileFault) -> Result<(), NoMemory>
 fn blank_lines<R: Row>(heap: Global, count: usize) -> Result<Vec<R>, NoMemory>
     ensures { IfOk result (λ rows. rows.items ≡ replicate count R.Row.format.blank) }
 {
+    // kept: `vec!` says only that its elements are clones, and of a clone of a generic row no clause says that it is the row.
     let mut rows = Vec::new(heap);
     rows.resize(count, R::from(R::blank()))?;
     Ok(rows)
@@ -67,7 +68,7 @@ fn push_loaded<R: Row, B: Book<Value = R>>(
     file: &[u8],
     book: &mut B,
 ) -> Result<(), NoMemory>
-    ensures { OnOk result (string_bytes out.new ≡ string_bytes out.old ++ lines_or_fault R.Row.format file.now (B.Book.lines book.old)) }
+    ensures { OnOk result (Adds out.old (lines_or_fault R.Row.format file.now (B.Book.lines book.old)) out.new) }
 {
     match load(file, book) {
         Ok(()) => push_book(out, book),

@@ -24,19 +24,30 @@ enum Request {
     Help,
 }
 
+// A word that asks for nothing known.
+#[derive(Clone, Copy, Debug, PartialEq, Eq)]
+struct UnknownWord;
+
+impl<'a> TryFrom<&'a str> for Request {
+    type Error = UnknownWord;
+
+    fn try_from(word: &'a str) -> Result<Request, UnknownWord> {
+        match word {
+            "legs" => Ok(Request::Legs),
+            "ropes" => Ok(Request::Ropes),
+            "--help" => Ok(Request::Help),
+            _ => Err(UnknownWord),
+        }
+    }
+}
+
 // What the arguments ask for, if they are understood.
 fn asked(rt: &HostRuntime) -> anyhow::Result<Option<Request>> {
     let mut args = env::args(rt)?.skip(1);
     let (Some(word), None) = (args.next(), args.next()) else {
         return Ok(None);
     };
-    let request = match word.as_str() {
-        "legs" => Some(Request::Legs),
-        "ropes" => Some(Request::Ropes),
-        "--help" => Some(Request::Help),
-        _ => None,
-    };
-    Ok(request)
+    Ok(Request::try_from(word.as_str()).ok())
 }
 
 // Prints the book in the file.

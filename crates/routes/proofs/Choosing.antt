@@ -1,10 +1,11 @@
 -- What is known of the nearest unfinished station.
-use Rattle.std.proofs.Common.{◌≡◌, ℕ, zero, suc, ◌+◌, ◌<◌, ◌≤◌, Bool, true, false, cond, List, Some, None, Option, refl, sym, ap, ◌∙◌, subst, inl, inr, add-zero, add-one, arith}
-use Rattle.std.specs.List.{fold, range_with_len}
+use Rattle.std.proofs.Common.{◌≡◌, ℕ, zero, suc, ◌+◌, ◌<◌, ◌≤◌, Bool, true, false, cond, List, [], length, drop, Some, None, Option, refl, sym, ap, ◌∙◌, subst, inl, inr, add-zero, add-one, arith}
+use Rattle.std.specs.List.{fold, range_with_len, zip}
 use Rattle.std.proofs.lemmas.Bool.{ltb-true, ltb-false, cases_order, both_ways}
+use Rattle.std.proofs.lemmas.List.{drop_more, drop_all}
 use Rattle.routes.specs.declared.reach.Nearest.{Nearest}
 use Rattle.routes.specs.declared.reach.Station.{Station}
-use Rattle.routes.specs.Reaches.{is_shorter, distance_of, nearer, with_station, station_at, nearest_below, nearest_of, Inside}
+use Rattle.routes.specs.Reaches.{unknown, is_shorter, distance_of, nearer, with_station, nearest_below, nearest_of, Inside}
 use Rattle.routes.proofs.Flags.{is_finished, distance_at}
 
 module _ (ss : List Station) where
@@ -92,18 +93,21 @@ module _ (ss : List Station) where
   pub nearest_inside : Inside (nearest_of ss)
   nearest_inside = inside_of (nearest_of ss) nearest_is.is
 
--- the better of the best so far and station i
-abbrev pub better : List Station → Option Nearest → ℕ → Option Nearest
-better ss best i = with_station (station_at ss i) i best
+-- the better of the best so far and a station, by its number
+abbrev pub better : Option Nearest → Station × ℕ → Option Nearest
+better best s = with_station s.0 s.1 best
 
 -- after the stations below a, n more
-fold-below : (ss : List Station) (n a : ℕ) → fold (better ss) (nearest_below ss a) (range_with_len a n) ≡ nearest_below ss (a + n)
-fold-below ss zero a = ap (nearest_below ss) (sym (add-zero a))
-fold-below ss (suc n) a =
-    let e : a + 1 + n ≡ a + suc n = omega arith in
-    ap (λ (k : ℕ). fold (better ss) (nearest_below ss k) (range_with_len (a + 1) n)) (sym (add-one a)) ∙ (fold-below ss n (a + 1) ∙ ap (nearest_below ss) e)
+fold-below : (ss : List Station) (n a : ℕ) → a + n ≡ length ss → fold better (nearest_below ss a) (zip (drop a ss) (range_with_len a n)) ≡ nearest_below ss (a + n)
+fold-below ss zero a e =
+    ap (λ (ys : List Station). fold better (nearest_below ss a) (zip ys [])) (drop_all a ss (omega arith)) ∙ ap (nearest_below ss) (sym (add-zero a))
+fold-below ss (suc n) a e =
+    let q : a + 1 + n ≡ a + suc n = omega arith in
+    ap (λ (ys : List Station). fold better (nearest_below ss a) (zip ys (range_with_len a (suc n)))) (drop_more ss a unknown (omega arith))
+    ∙ (ap (λ (k : ℕ). fold better (nearest_below ss k) (zip (drop (a + 1) ss) (range_with_len (a + 1) n))) (sym (add-one a))
+    ∙ (fold-below ss n (a + 1) (omega arith) ∙ ap (nearest_below ss) q))
 
 -- the nearest is what going over the stations one by one leads to
-pub fold-better : (ss : List Station) → fold (better ss) None (range_with_len 0 16) ≡ nearest_of ss
+pub fold-better : (ss : List Station) → length ss ≡ 16 → fold better None (zip ss (range_with_len 0 16)) ≡ nearest_of ss
 unfolding nearest_of
-fold-better ss = fold-below ss 16 0
+fold-better ss e = fold-below ss 16 0 (sym e)

@@ -1,5 +1,5 @@
 -- A pass over the lines, as turns of the search alone.
-use Rattle.std.proofs.Common.{◌≡◌, ℕ, zero, suc, ◌+◌, ◌<◌, ◌≤◌, Bool, ltb, List, map, length, get_or, take, drop, Some, None, Option, sym, refl, ap, ◌∙◌, inl, inr, add-one, arith}
+use Rattle.std.proofs.Common.{◌≡◌, ℕ, zero, suc, ◌+◌, ◌<◌, ◌≤◌, ltb, List, map, length, get_or, take, drop, Some, None, Option, sym, refl, ap, ◌∙◌, inl, inr, add-one, arith}
 use Rattle.std.specs.List.{slice_get}
 use Rattle.std.proofs.lemmas.Bool.{cases_lt, lt-ltb, le-ltb, cond-true, cond-false}
 use Rattle.std.proofs.lemmas.List.{drop_more}
@@ -13,17 +13,17 @@ use Rattle.routes.specs.declared.search.Next.{Next}
 use Rattle.routes.specs.declared.search.Next.TheVariants.{Line, Ended}
 use Rattle.routes.specs.declared.reach.Station.{Station}
 use Rattle.routes.specs.Reaches.{relaxed}
-use Rattle.routes.specs.Searches.{route_family, request_of, after_row, choose, line_done}
+use Rattle.routes.specs.Searches.{Searching, route_family, request_of, after_row, choose, line_done}
 use Rattle.routes.specs.Answers.{still, asked_row}
 use Rattle.jobs.proofs.Turns.{turns_front}
 use Rattle.routes.proofs.Relaxing.{relaxed_all}
 
 -- a turn that reads a line, by what the list has there
-module _ (rows : List LegRow) (s : Search) (l : ℕ) (asks : Read l ≡ route_family.request s) where
+module _ (rows : List LegRow) (s : Search) (l : ℕ) (asks : Read l ≡ request_of s.next) where
   reads_so : (o : Option LegRow) → slice_get rows l ≡ o → turn route_family rows (still s) ≡ take_in route_family (still s) o
   reads_so o e = ap (turn_at route_family rows (still s)) (sym asks) ∙ ap (take_in route_family (still s)) e
 
-  pub turn_reads : (row : LegRow) → slice_get rows l ≡ Some row → turn route_family rows (still s) ≡ still (route_family.after_read s row)
+  pub turn_reads : (row : LegRow) → slice_get rows l ≡ Some row → turn route_family rows (still s) ≡ still (after_row s row s.next)
   turn_reads row e = reads_so (Some row) e
 
   pub turn_lacks : length rows ≤ l → turn route_family rows (still s) ≡ still s
@@ -33,7 +33,7 @@ module _ (rows : List LegRow) (s : Search) (l : ℕ) (asks : Read l ≡ route_fa
 module _ (rows : List LegRow) (s : Search) where
   took : (n : Next) → s.next ≡ n → (row : LegRow) → asked_row rows n ≡ Some row → turn route_family rows (still s) ≡ still (after_row s row n)
   took (Line u l) e row f =
-      let asks : Read l ≡ route_family.request s = ap request_of (sym e) in
+      let asks : Read l ≡ request_of s.next = ap request_of (sym e) in
       turn_reads rows s l asks row f ∙ ap (λ (n : Next). still (after_row s row n)) e
   took (Ended found) e row f = let z : ◌≡◌ {A = ℕ} 0 1 = cc in absurd (let q : ⊥ = omega arith in q)
 
@@ -68,7 +68,7 @@ module _ (rows : List LegRow) (b c u : ℕ) where
   last_line l r h k = one_turn l r h ∙ ap still (cond-false (ltb (l + 1) c) _ _ (le-ltb (l + 1) c k))
 
   -- the search stands before a line that the book has, or is the first that it lacks
-  pub record Waits (a : Alone LegRow Search) : Type 0 where
+  pub record Waits (a : Alone LegRow Searching) : Type 0 where
     pub line : ℕ
     pub stations : List Station
     pub inside : line ≤ length rows
@@ -76,7 +76,7 @@ module _ (rows : List LegRow) (b c u : ℕ) where
 
   -- where the book lacks a line, the search never comes past it
   module _ (lacking : length rows < c) where
-    waits_on : (a : Alone LegRow Search) → Waits a → Waits (turn route_family rows a)
+    waits_on : (a : Alone LegRow Searching) → Waits a → Waits (turn route_family rows a)
     waits_on a w =
         let l = w.line in
         let r = w.stations in

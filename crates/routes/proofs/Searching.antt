@@ -1,12 +1,11 @@
 -- A search alone ends in time, and its answer is right.
-use Rattle.std.proofs.Common.{◌≡◌, ℕ, zero, suc, ◌+◌, ◌-◌, ◌*◌, ◌%◌, ◌<◌, ◌≤◌, Bool, true, false, ◌||◌, eqb, ltb, List, [], length, get_or, take, set, Some, None, Ok, Err, Option, Result, sym, refl, ap, ◌∙◌, subst, inl, inr, mod-eq_of_lt, suc-mul, arith}
+use Rattle.std.proofs.Common.{◌≡◌, ℕ, zero, suc, ◌+◌, ◌-◌, ◌*◌, ◌%◌, ◌<◌, ◌≤◌, true, false, ◌||◌, eqb, ltb, List, [], length, take, Some, None, Ok, Err, Option, sym, refl, ap, ◌∙◌, subst, inl, inr, mod-eq_of_lt, suc-mul, arith}
 use native.Mathlib.Nat.{add-mod_left}
 use Rattle.std.proofs.lemmas.Bool.{ltb-false, cond-true, cond-false, cases_eq, cases_lt, cases_Bool, eq-eqb, ne_eqb, or_parts}
 use Rattle.survey.specs.declared.leg.LegRow.{LegRow}
 use Rattle.survey.proofs.Ranges.{InRange}
 use Rattle.calls.specs.declared.ending.Ending.{Ending}
 use Rattle.calls.specs.declared.order.Order.{Order}
-use Rattle.calls.specs.declared.order.BadOrder.{BadOrder}
 use Rattle.calls.specs.Endings.{bad_ending}
 use Rattle.jobs.specs.declared.request.Request.{Request}
 use Rattle.jobs.specs.declared.request.Request.TheVariants.{Read, End}
@@ -18,8 +17,8 @@ use Rattle.routes.specs.declared.search.Next.TheVariants.{Line, Ended}
 use Rattle.routes.specs.declared.reach.Nearest.{Nearest}
 use Rattle.routes.specs.declared.reach.Station.{Station}
 use Rattle.routes.specs.Reaches.{reached_first, marked, nearest_of}
-use Rattle.routes.specs.Searches.{route_family, bad_order, ending_of, request_of, chosen, begun_at, first_next, first_search, refused}
-use Rattle.routes.specs.Routes.{Among, Route, here, onward, Least, Right, legs_of, Searched, SearchesAreRight, EndedSearchesAreRight}
+use Rattle.routes.specs.Searches.{Searching, route_family, bad_order, ending_of, request_of, chosen, begun_at, first_next, first_search}
+use Rattle.routes.specs.Routes.{Among, Route, here, onward, Right, legs_of, Searched, SearchesAreRight, EndedSearchesAreRight}
 use Rattle.routes.specs.Answers.{still, length_found, Answers}
 use Rattle.routes.proofs.Legs.{all_in_range}
 use Rattle.routes.proofs.Relaxing.{relaxed_all}
@@ -29,18 +28,18 @@ use Rattle.routes.proofs.Finishing.{Before, After, finish, finish_marks, no_rout
 use Rattle.jobs.proofs.Turns.{turns_add, ended_since, ends_alike}
 use Rattle.routes.proofs.Passing.{at_line, a_pass, lines_read, waits}
 
-abbrev asks : Alone LegRow Search → Request LegRow
+abbrev asks : Alone LegRow Searching → Request LegRow
 asks s = route_family.request s.state
 
 module _ (rows : List LegRow) (a b c : ℕ) where
   abbrev legs : List LegRow
   legs = legs_of rows c
 
-  abbrev after : ℕ → Alone LegRow Search → Alone LegRow Search
+  abbrev after : ℕ → Alone LegRow Searching → Alone LegRow Searching
   after k s = turns route_family rows k s
 
   -- from s, where a pass begins, the search asks to end within so many turns, and its answer is right
-  pub record Outcome (within : ℕ) (s : Alone LegRow Search) : Type 0 where
+  pub record Outcome (within : ℕ) (s : Alone LegRow Searching) : Type 0 where
     pub count : ℕ
     pub soon : count ≤ within
     pub in_order : (k : ℕ) → k < count → asks (after k s) ≡ Read (k % c)
@@ -49,12 +48,12 @@ module _ (rows : List LegRow) (a b c : ℕ) where
     pub unwritten : (after count s).writes ≡ []
     pub right : Right legs a b ending
 
-  at_once : (within : ℕ) (found : Result (Option ℕ) BadOrder) (s : Search) → s.next ≡ Ended found → Right legs a b (ending_of found) → Outcome within (still s)
+  at_once : (within : ℕ) (found : Option ℕ) (s : Search) → s.next ≡ Ended found → Right legs a b (ending_of found) → Outcome within (still s)
   at_once within found s e r =
       record { count = 0; soon = omega arith; in_order = λ k h. absurd (let q : ⊥ = omega arith in q); ending = ending_of found; ends = ap (λ (n : Next). request_of n) e; unwritten = refl; right = r }
 
   -- a pass, and then what follows
-  later : (within : ℕ) (s t : Alone LegRow Search) → ((k : ℕ) → k < c → asks (after k s) ≡ Read k) → after c s ≡ t → Outcome within t → Outcome (within + c) s
+  later : (within : ℕ) (s t : Alone LegRow Searching) → ((k : ℕ) → k < c → asks (after k s) ≡ Read k) → after c s ≡ t → Outcome within t → Outcome (within + c) s
   later within s t read e o =
       let then : (k : ℕ) → after (c + k) s ≡ after k t = λ k. turns_add route_family rows c k s ∙ ap (after k) e in
       record {
@@ -70,7 +69,7 @@ module _ (rows : List LegRow) (a b c : ℕ) where
             ];
         ending = o.ending;
         ends = ap asks (then o.count) ∙ o.ends;
-        unwritten = ap (λ (x : Alone LegRow Search). x.writes) (then o.count) ∙ o.unwritten;
+        unwritten = ap (λ (x : Alone LegRow Searching). x.writes) (then o.count) ∙ o.unwritten;
         right = o.right;
       }
 
@@ -82,13 +81,13 @@ module _ (rows : List LegRow) (a b c : ℕ) where
     module _ {m limit : ℕ} {ss : List Station} (k : After legs a m limit ss) (unfinished : is_finished ss b ≡ false)
         (again : (u : ℕ) (ts : List Station) → Before legs a m u ts → is_finished ts b ≡ false → Outcome (m * c) (still (at_line b c u 0 ts))) where
       next_pass : (best : Option Nearest) → IsNearest ss 16 best → Outcome (m * c) (still (chosen b c (record { stations = ss }) best))
-      next_pass None s = at_once (m * c) (Ok None) _ refl (inr (refl, refl, no_route legs a ranges k b unfinished s))
+      next_pass None s = at_once (m * c) None _ refl (inr (refl, refl, no_route legs a ranges k b unfinished s))
       next_pass (Some n) s =
           elim (cases_eq n.station b) [
             | inl q ↦
                 let g = cond-true (eqb n.station b) _ _ (eq-eqb n.station b q) in
                 subst (λ (x : Search). Outcome (m * c) (still x)) (sym g)
-                (at_once (m * c) (Ok (Some n.distance)) _ refl (inl (refl, least_way legs a ranges k b unfinished n s q)))
+                (at_once (m * c) (Some n.distance) _ refl (inl (refl, least_way legs a ranges k b unfinished n s q)))
             | inr q ↦
                 let g = cond-false (eqb n.station b) _ _ (ne_eqb n.station b q) in
                 subst (λ (x : Search). Outcome (m * c) (still x)) (sym g)
@@ -116,12 +115,12 @@ module _ (rows : List LegRow) (a b c : ℕ) where
   abbrev begun_with : Next → Search
   begun_with n = record { target = b; count = c; next = n; reach = record { stations = reached_first a } }
 
-  abbrev first : Alone LegRow Search
+  abbrev first : Alone LegRow Searching
   first = still (begun_at a b c)
 
   from_itself : a ≡ b → Outcome rows a b c (15 * c) first
   from_itself q =
-      at_once rows a b c (15 * c) (Ok (Some 0)) (begun_at a b c) (cond-true (eqb a b) _ _ (eq-eqb a b q))
+      at_once rows a b c (15 * c) (Some 0) (begun_at a b c) (cond-true (eqb a b) _ _ (eq-eqb a b q))
       (inl (refl, record { route = subst (λ (y : ℕ). Route (legs_of rows c) a y 0) q here; least = λ d w. omega arith }))
 
   -- where there is a line to read, the search begins with the first
@@ -130,7 +129,7 @@ module _ (rows : List LegRow) (a b c : ℕ) where
 
   without_lines : (a ≡ b → ⊥) → c ≡ 0 → Outcome rows a b c (15 * c) first
   without_lines n z =
-      at_once rows a b c (15 * c) (Ok None) (begun_at a b c) (cond-false (eqb a b) _ _ (ne_eqb a b n) ∙ cond-true (eqb c 0) _ _ (eq-eqb c 0 z))
+      at_once rows a b c (15 * c) None (begun_at a b c) (cond-false (eqb a b) _ _ (ne_eqb a b n) ∙ cond-true (eqb c 0) _ _ (eq-eqb c 0 z))
       (inr (refl, refl, λ d w. n (no_legs (subst (λ (y : ℕ). Route (legs_of rows y) a b d) z w))))
 
   from_first : a < 16 → b < 16 → c ≤ length rows → Outcome rows a b c (15 * c) first
@@ -148,20 +147,20 @@ module _ (rows : List LegRow) (a b c : ℕ) where
       ]
 
 module _ (o : Order) (rows : List LegRow) (good : bad_order o ≡ false) where
-  first_is : begun_at o.a o.b o.c ≡ first_search o
+  first_is : Ok (begun_at o.a o.b o.c) ≡ first_search o
   first_is = sym (cond-false (bad_order o) _ _ good)
 
   searched : Outcome rows o.a o.b o.c (15 * o.c) (first rows o.a o.b o.c) → Searched o rows
   searched y =
-      let x = subst (λ (s : Search). Outcome rows o.a o.b o.c (15 * o.c) (still s)) first_is y in
+      let x = subst (λ (s : Searching). Outcome rows o.a o.b o.c (15 * o.c) (record { state = s; writes = [] })) first_is y in
       record { count = x.count; soon = x.soon; in_order = x.in_order; ending = x.ending; asks = x.ends; unwritten = x.unwritten; right = x.right }
 
   -- a book that lacks a line is not searched to the end, unless there is nothing to search
   never_ends : length rows < o.c → (o.a ≡ o.b → ⊥) → (k : ℕ) (ending : Ending) → asks (turns route_family rows k (begun route_family o)) ≡ End ending → ⊥
   never_ends lacking n k ending e =
-      let f : first_search o ≡ begun_with rows o.a o.b o.c (Line o.a 0) = sym first_is ∙ ap (begun_with rows o.a o.b o.c) (begins_reading rows o.a o.b o.c n (omega arith)) in
+      let f : first_search o ≡ Ok (begun_with rows o.a o.b o.c (Line o.a 0)) = sym first_is ∙ ap (λ (t : Next). Ok (begun_with rows o.a o.b o.c t)) (begins_reading rows o.a o.b o.c n (omega arith)) in
       let w = waits rows o.b o.c o.a lacking _ k in
-      let g = ap (λ (s : Search). turns route_family rows k (still s)) f ∙ w.is in
+      let g = ap (λ (s : Searching). turns route_family rows k (record { state = s; writes = [] })) f ∙ w.is in
       let q : ◌≡◌ {A = Request LegRow} (Read w.line) (End ending) = sym (ap asks g) ∙ e in
       let z : ◌≡◌ {A = ℕ} 0 1 = cc in
       omega arith
@@ -175,13 +174,11 @@ searches_are_right o rows good enough =
     (from_first rows o.a o.b o.c (omega (arith, ltb-false 15 o.a q.0)) (omega (arith, ltb-false 15 o.b r.0)) enough)
 
 -- what a right answer says of the length that was found
-right_found : (legs : List LegRow) (a b : ℕ) (found : Result (Option ℕ) BadOrder) → Right legs a b (ending_of found) → Answers legs a b (length_found (Ended found))
-right_found legs a b (Ok (Some d)) (inl p) = p.1
-right_found legs a b (Ok (Some d)) (inr p) = absurd (let q : ⊥ = omega (arith, p.0) in q)
-right_found legs a b (Ok None) (inl p) = absurd (let q : ⊥ = omega (arith, p.0) in q)
-right_found legs a b (Ok None) (inr p) = p.2
-right_found legs a b (Err bad) (inl p) = absurd (let q : ⊥ = omega (arith, p.0) in q)
-right_found legs a b (Err bad) (inr p) = absurd (let q : ⊥ = omega (arith, p.0) in q)
+right_found : (legs : List LegRow) (a b : ℕ) (found : Option ℕ) → Right legs a b (ending_of found) → Answers legs a b (length_found (Ended found))
+right_found legs a b (Some d) (inl p) = p.1
+right_found legs a b (Some d) (inr p) = absurd (let q : ⊥ = omega (arith, p.0) in q)
+right_found legs a b None (inl p) = absurd (let q : ⊥ = omega (arith, p.0) in q)
+right_found legs a b None (inr p) = p.2
 
 found_right : (legs : List LegRow) (a b : ℕ) (ending : Ending) (n : Next) → request_of n ≡ End ending → Right legs a b ending → Answers legs a b (length_found n)
 found_right legs a b ending (Line u l) e r = let z : ◌≡◌ {A = ℕ} 0 1 = cc in absurd (let q : ⊥ = omega arith in q)
@@ -207,21 +204,25 @@ alike o rows x ending after e =
     ends_alike route_family rows (begun route_family o) x.count e.count x.ending ending x.asks e.asks in
     let q : ◌≡◌ {A = Request LegRow} (End x.ending) (End ending) = sym x.asks ∙ (ap asks same ∙ e.asks) in
     let c : x.ending ≡ ending = cc in
-    let w : (turns route_family rows e.count (begun route_family o)).writes ≡ [] = ap (λ (s : Alone LegRow Search). s.writes) (sym same) ∙ x.unwritten in (
+    let w : (turns route_family rows e.count (begun route_family o)).writes ≡ [] = ap (λ (s : Alone LegRow Searching). s.writes) (sym same) ∙ x.unwritten in (
       subst (Right (legs_of rows o.c) o.a o.b) c x.right,
       e.leaves ∙ ap (λ (ws : List (Written LegRow)). applied ws rows) w,
     )
 
--- a bad order ends at once
+-- the job of a bad order
+abbrev refused : Alone LegRow Searching
+refused = record { state = Err (record {}); writes = [] }
+
+-- it ends at once
 ends_refused : (o : Order) (rows : List LegRow) → bad_order o ≡ true → (ending : Ending) (after : List LegRow) → Ends route_family o rows ending after
     → (ending ≡ bad_ending) × (after ≡ rows)
 ends_refused o rows bad ending after e =
-    let f : begun route_family o ≡ still (refused (record {})) = ap still (cond-true (bad_order o) _ _ bad) in
-    let g : turns route_family rows e.count (begun route_family o) ≡ still (refused (record {})) =
-    ended_since route_family rows (begun route_family o) (still (refused (record {}))) 0 e.count bad_ending (omega arith) f refl in
+    let f : begun route_family o ≡ refused = ap (λ (s : Searching). record { state = s; writes = [] }) (cond-true (bad_order o) _ _ bad) in
+    let g : turns route_family rows e.count (begun route_family o) ≡ refused =
+    ended_since route_family rows (begun route_family o) refused 0 e.count bad_ending (omega arith) f refl in
     let q : ◌≡◌ {A = Request LegRow} (End bad_ending) (End ending) = sym (ap asks g) ∙ e.asks in
     let c : ending ≡ bad_ending = cc in
-    (c, e.leaves ∙ ap (λ (s : Alone LegRow Search). applied s.writes rows) g)
+    (c, e.leaves ∙ ap (λ (s : Alone LegRow Searching). applied s.writes rows) g)
 
 pub ended_searches_are_right : EndedSearchesAreRight
 ended_searches_are_right o rows ending after e =

@@ -9,12 +9,12 @@ use Rattle.routes.specs.declared.search.Next.{Next}
 use Rattle.routes.specs.declared.search.Next.TheVariants.{Line, Ended}
 use Rattle.routes.specs.declared.refusal.SearchRefusal.{SearchRefusal}
 use Rattle.routes.specs.declared.refusal.SearchRefusal.TheVariants.{BadOrder, NoLine}
-use Rattle.routes.specs.Searches.{bad_order, route_family}
+use Rattle.routes.specs.Searches.{Searching, bad_order}
 use Rattle.routes.specs.Routes.{Least, NoRoute, legs_of}
 
 -- a search as a job that has written nothing
-abbrev pub still : Search → Alone LegRow Search
-still s = record { state = s; writes = [] }
+abbrev pub still : Search → Alone LegRow Searching
+still s = record { state = Ok s; writes = [] }
 
 -- the row that a search asks for, where the list has it
 abbrev pub asked_row : List LegRow → Next → Option LegRow
@@ -24,8 +24,7 @@ asked_row rows (Ended found) = None
 -- the length that a search ended with, if it found a route
 abbrev pub length_found : Next → Option ℕ
 length_found (Line u l) = None
-length_found (Ended (Ok found)) = found
-length_found (Ended (Err bad)) = None
+length_found (Ended found) = found
 
 -- the order of a search
 abbrev pub route_order : ℕ → ℕ → ℕ → Order

@@ -1,5 +1,5 @@
 -- The four functions of the route family.
-use Rattle.std.specs.Prelude.{ℕ, ◌+◌, Bool, cond, ◌||◌, List, Some, None, Ok, Err, Option, Result, ◌==◌, nat_lt}
+use Rattle.std.specs.Prelude.{ℕ, ◌+◌, Bool, cond, ◌||◌, Some, None, Ok, Err, Option, Result, ◌==◌, nat_lt}
 use Rattle.survey.specs.declared.leg.LegRow.{LegRow}
 use Rattle.survey.specs.Legs.{as_leg}
 use Rattle.calls.specs.declared.ending.Ending.{Ending}
@@ -14,41 +14,44 @@ use Rattle.routes.specs.declared.search.Next.{Next}
 use Rattle.routes.specs.declared.search.Next.TheVariants.{Line, Ended}
 use Rattle.routes.specs.declared.reach.Nearest.{Nearest}
 use Rattle.routes.specs.declared.reach.Reach.{Reach}
-use Rattle.routes.specs.Reaches.{all_unknown, reached_first, relaxed, marked, nearest_of}
+use Rattle.routes.specs.Reaches.{reached_first, relaxed, marked, nearest_of}
 
 -- an order that no search can be made of: another kind, a station above 15, more than 64 lines
 abbrev pub bad_order : Order → Bool
 bad_order o = nat_lt 0 o.kind || (nat_lt 15 o.a || (nat_lt 15 o.b || nat_lt 64 o.c))
 
--- the search of a bad order, in which no station is reached
-abbrev pub refused : BadOrder → Search
-refused bad = record { target = 0; count = 0; next = Ended (Err bad); reach = record { stations = all_unknown } }
-
 -- the station a is the first to be finished, unless it is the target, or there is no line to read
 abbrev pub first_next : ℕ → ℕ → ℕ → Next
-first_next a b c = cond (a == b) (Ended (Ok (Some 0))) (cond (c == 0) (Ended (Ok None)) (Line a 0))
+first_next a b c = cond (a == b) (Ended (Some 0)) (cond (c == 0) (Ended None) (Line a 0))
 
 abbrev pub begun_at : ℕ → ℕ → ℕ → Search
 begun_at a b c = record { target = b; count = c; next = first_next a b c; reach = record { stations = reached_first a } }
 
-abbrev pub first_search : Order → Search
-first_search o = cond (bad_order o) (refused (record {})) (begun_at o.a o.b o.c)
+-- what a search goes on with, or that its order is bad
+abbrev pub Searching : Type 0
+Searching = Result Search BadOrder
 
--- 0 with the least length, 1 with 0 where there is no route, or what a bad order is answered
-abbrev pub ending_of : Result (Option ℕ) BadOrder → Ending
-ending_of (Ok (Some d)) = record { code = 0; number = d }
-ending_of (Ok None) = record { code = 1; number = 0 }
-ending_of (Err bad) = bad_ending
+abbrev pub first_search : Order → Searching
+first_search o = cond (bad_order o) (Err (record {})) (Ok (begun_at o.a o.b o.c))
+
+-- 0 with the least length, or 1 with 0 where there is no route
+abbrev pub ending_of : Option ℕ → Ending
+ending_of (Some d) = record { code = 0; number = d }
+ending_of None = record { code = 1; number = 0 }
 
 abbrev pub request_of : Next → Request LegRow
 request_of (Line u l) = Read l
 request_of (Ended found) = End (ending_of found)
 
+abbrev pub search_request : Searching → Request LegRow
+search_request (Ok s) = request_of s.next
+search_request (Err bad) = End bad_ending
+
 -- on to the nearest unfinished station, unless that is the target, or none is reached
 abbrev pub chosen : ℕ → ℕ → Reach → Option Nearest → Search
-chosen t c r None = record { target = t; count = c; next = Ended (Ok None); reach = r }
+chosen t c r None = record { target = t; count = c; next = Ended None; reach = r }
 chosen t c r (Some n) =
-    cond (n.station == t) (record { target = t; count = c; next = Ended (Ok (Some n.distance)); reach = r })
+    cond (n.station == t) (record { target = t; count = c; next = Ended (Some n.distance); reach = r })
     (record { target = t; count = c; next = Line n.station 0; reach = record { stations = marked n.station r.stations } })
 
 abbrev pub choose : ℕ → ℕ → Reach → Search
@@ -62,11 +65,15 @@ abbrev pub after_row : Search → LegRow → Next → Search
 after_row s row (Line u l) = line_done s.target s.count u l (record { stations = relaxed u (as_leg row) s.reach.stations })
 after_row s row (Ended found) = s
 
-abbrev pub route_family : Meaning LegRow Search
+abbrev pub search_read : Searching → LegRow → Searching
+search_read (Ok s) row = Ok (after_row s row s.next)
+search_read (Err bad) row = Err bad
+
+abbrev pub route_family : Meaning LegRow Searching
 route_family =
     record {
       first = first_search;
-      request = λ s. request_of s.next;
-      after_read = λ s row. after_row s row s.next;
+      request = search_request;
+      after_read = search_read;
       after_write = λ s. s;
     }

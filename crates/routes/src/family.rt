@@ -4,19 +4,16 @@ ghost use Rattle.routes.specs.Searches.{ending_of, route_family};
 
 use crate::errand::Errand;
 use crate::search::{Next, Search};
-use calls::ending::Ending;
+use calls::ending::{DONE, Ending};
 use calls::order::{BadOrder, Order};
 use jobs::family::Family;
 use jobs::request::Request;
 use survey::leg::LegRow;
 
-// The most lines that a search reads.
-pub const MOST_LINES: u32 = 64;
+// The most lines that are searched.
+pub const MOST_SEARCHED: u32 = 64;
 
-// A route was found, and the number is its length.
-pub const FOUND: u32 = 0;
-
-// There is no route; the number is 0.
+// The code of a search that found no route; the number is 0. With a route, it has done what was asked, and the number is its length.
 pub const NO_ROUTE: u32 = 1;
 
 // Kind 0 finds the least length of a route from station a to station b over the lines below c.
@@ -24,51 +21,50 @@ pub const NO_ROUTE: u32 = 1;
 pub struct Route;
 
 // The code and the number by which a job of this family tells what its search found.
-fn ending(found: Result<Option<u32>, BadOrder>) -> Ending
+fn ending(found: Option<u32>) -> Ending
     ensures { result ≡ ending_of found }
 {
     match found {
-        Ok(Some(length)) => Ending {
-            code: FOUND,
+        Some(length) => Ending {
+            code: DONE,
             number: length,
         },
-        Ok(None) => Ending {
+        None => Ending {
             code: NO_ROUTE,
             number: 0,
         },
-        Err(bad) => Ending::from(bad),
     }
 }
 
 impl Family for Route {
-    type State = Search;
+    type State = Result<Search, BadOrder>;
 
     type Value = LegRow;
 
     ghost meaning = { λ _. route_family };
 
-    fn start(&self, order: Order) -> Search {
-        match Errand::try_from(order) {
-            Ok(errand) => Search::begin(errand),
-            Err(bad) => Search::refused(bad),
+    fn start(&self, order: Order) -> Self::State {
+        Ok(Search::begin(Errand::try_from(order)?))
+    }
+
+    fn request(&self, state: Self::State) -> Request<Self::Value> {
+        match state.map(|search| search.next) {
+            Ok(Next::Line { line, .. }) => Request::Read {
+                line: u32::from(line),
+            },
+            Ok(Next::Ended(found)) => Request::End(ending(found)),
+            Err(bad) => Request::End(Ending::from(bad)),
         }
     }
 
-    fn request(&self, state: Search) -> Request<LegRow> {
-        match state.next {
-            Next::Line { station: _, line } => Request::Read { line: line as u32 },
-            Next::Ended(found) => Request::End(ending(found)),
-        }
-    }
-
-    fn after_read(&self, state: Search, value: LegRow) -> Search {
-        let mut state = state;
-        state.take_in(value);
-        state
+    fn after_read(&self, state: Self::State, value: LegRow) -> Self::State {
+        let mut search = state?;
+        search.take_in(value);
+        Ok(search)
     }
 
     // A search writes nothing.
-    fn after_write(&self, state: Search) -> Search {
+    fn after_write(&self, state: Self::State) -> Self::State {
         state
     }
 }

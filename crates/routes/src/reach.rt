@@ -6,7 +6,7 @@ use survey::leg::Leg;
 
 pub const STATIONS: usize = 16;
 
-// What a search knows of a station.
+// What a search knows of a station. Kept a mark beside the distance: a pass lowers a distance whether its station is marked or not, so that an enum of three has that rule twice.
 #[derive(Clone, Copy)]
 pub struct Station {
     // The length of the shortest route to it that was found, if one was.
@@ -57,9 +57,10 @@ impl Station {
     }
 }
 
+// Stations are kept bytes: a state lies in memory that others could alter, so that it may hold any byte.
 impl Reach {
     // No station is reached.
-    pub(crate) fn nowhere() -> Reach
+    fn nowhere() -> Reach
         ensures { result.stations ≡ all_unknown }
     {
         Reach {
@@ -73,7 +74,7 @@ impl Reach {
         ensures { result.stations ≡ reached_first station }
     {
         let mut reach = Reach::nowhere();
-        reach.stations[station as usize] = Station {
+        reach.stations[usize::from(station)] = Station {
             distance: Some(0),
             finished: true,
         };
@@ -84,7 +85,7 @@ impl Reach {
         ensures { result ≡ station_at self.now.stations number }
     {
         self.stations
-            .get(number as usize)
+            .get(usize::from(number))
             .copied()
             .unwrap_or(Station::unknown())
     }
@@ -94,7 +95,7 @@ impl Reach {
         requires { station ≤ 15 }
         ensures { self.new.stations ≡ improved station distance self.old.stations }
     {
-        let known = &mut self.stations[station as usize];
+        let known = &mut self.stations[usize::from(station)];
         if known.distance.is_none_or(|least| distance < least) {
             known.distance = Some(distance);
         }
@@ -121,7 +122,7 @@ impl Reach {
         requires { station < 16 }
         ensures { self.new.stations ≡ marked station self.old.stations }
     {
-        self.stations[station as usize].finished = true;
+        self.stations[usize::from(station)].finished = true;
     }
 
     // The nearest station that is reached and not finished, the lowest number among equals.
@@ -129,9 +130,9 @@ impl Reach {
         ensures value { result ≡ nearest_of self.now.stations }
         ensures inside { Inside result }
     {
-        (0..STATIONS as u8).fold(
+        self.stations.iter().zip(0..STATIONS as u8).fold(
             None,
-            |best, number| self.station(number).nearer(number, best),
+            |best, (station, number)| station.nearer(number, best),
         )
     }
 }

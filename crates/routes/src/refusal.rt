@@ -3,7 +3,9 @@ ghost use Rattle.std.specs.Prelude.{◌≡◌};
 ghost use Rattle.routes.specs.Refusals.{number};
 ghost use Rattle.routes.specs.declared.refusal.SearchRefusal.TheVariants as refusal;
 
+use calls::ending::REFUSED;
 use calls::order::BadOrder;
+use calls::refusal::Refusal;
 
 #[derive(Clone, Copy, Debug, PartialEq, Eq)]
 pub enum SearchRefusal {
@@ -14,13 +16,13 @@ pub enum SearchRefusal {
 }
 
 impl SearchRefusal {
-    // The number by which the refusal is printed.
+    // The number by which the refusal is printed. Kept a method: `From` would read as if the number were the refusal.
     pub fn number(self) -> u32
         ensures { result ≡ number self }
     {
         match self {
-            SearchRefusal::BadOrder => 9,
-            SearchRefusal::NoLine => 4,
+            SearchRefusal::BadOrder => REFUSED,
+            SearchRefusal::NoLine => Refusal::NoLine.number(),
         }
     }
 }

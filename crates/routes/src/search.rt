@@ -1,21 +1,20 @@
 // The state of a search, and how it goes on.
 ghost use Rattle.std.specs.Prelude.{◌≡◌};
-ghost use Rattle.routes.specs.Searches.{refused, begun_at, first_next, choose, line_done, after_row};
+ghost use Rattle.routes.specs.Searches.{begun_at, first_next, choose, line_done, after_row};
 ghost use Rattle.routes.specs.Answers.{length_found};
 
 use crate::errand::Errand;
 use crate::reach::Reach;
-use calls::order::BadOrder;
 use survey::leg::LegRow;
 use survey::row::Row;
 
 // What a search does next.
 #[derive(Clone, Copy)]
 pub enum Next {
-    // Reads a line, for the station that it is finishing.
+    // Reads a line, for the station that it is finishing. Kept a number and no `Range`: a state is copied, and a range is not.
     Line { station: u8, line: u8 },
-    // The least length, if there is a route; or the order was bad.
-    Ended(Result<Option<u32>, BadOrder>),
+    // With the least length, if there is a route.
+    Ended(Option<u32>),
 }
 
 // A search for the target over the first `count` lines.
@@ -28,18 +27,6 @@ pub struct Search {
 }
 
 impl Search {
-    // The search of a bad order, in which no station is reached.
-    pub(crate) fn refused(bad: BadOrder) -> Search
-        ensures { result ≡ refused bad }
-    {
-        Search {
-            target: 0,
-            count: 0,
-            next: Next::Ended(Err(bad)),
-            reach: Reach::nowhere(),
-        }
-    }
-
     // The search of an errand; the first station is finished first.
     pub(crate) fn begin(errand: Errand) -> Search
         ensures { result ≡ begun_at errand.from errand.to errand.count }
@@ -57,10 +44,8 @@ impl Search {
         ensures { self.new ≡ choose self.old.target self.old.count self.old.reach }
     {
         self.next = match self.reach.nearest() {
-            None => Next::Ended(Ok(None)),
-            Some(nearest) if nearest.station == self.target => Next::Ended(Ok(Some(
-                nearest.distance,
-            ))),
+            None => Next::Ended(None),
+            Some(nearest) if nearest.station == self.target => Next::Ended(Some(nearest.distance)),
             Some(nearest) => {
                 self.reach.finish(nearest.station);
                 Next::Line {
@@ -100,12 +85,8 @@ impl Search {
         ensures { result ≡ length_found self.now.next }
     {
         match self.next {
-            Next::Ended(Ok(found)) => found,
-            Next::Ended(Err(_)) => None,
-            Next::Line {
-                station: _,
-                line: _,
-            } => None,
+            Next::Ended(found) => found,
+            _ => None,
         }
     }
 }
@@ -115,9 +96,9 @@ fn first_next(errand: Errand) -> Next
     ensures { result ≡ first_next errand.from errand.to errand.count }
 {
     if errand.from == errand.to {
-        Next::Ended(Ok(Some(0)))
+        Next::Ended(Some(0))
     } else if errand.count == 0 {
-        Next::Ended(Ok(None))
+        Next::Ended(None)
     } else {
         Next::Line {
             station: errand.from,

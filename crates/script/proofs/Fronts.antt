@@ -1,9 +1,8 @@
 -- The part up to the first separator. Assumes nothing.
-use Rattle.std.proofs.Common.{◌≡◌, ℕ, suc, ◌+◌, ◌-◌, ◌==◌, Bool, not, true, false, cond, eqb, List, [], ◌∷◌, length, take, drop, Option, refl, ap, ◌∙◌, ⊎_elim, arith, lt-ltb, length-drop}
+use Rattle.std.proofs.Common.{◌≡◌, ℕ, suc, ◌+◌, ◌≤◌, ◌==◌, Bool, not, true, false, cond, eqb, List, [], ◌∷◌, length, take, Option, refl, ap, ◌∙◌, ⊎_elim, arith, lt-ltb}
 use Rattle.std.specs.Prelude.{unwrap_or}
 use Rattle.std.specs.List.{position, position_or_len}
 use Rattle.std.proofs.lemmas.Bool.{cases_lt, cond-true, cond-false, le-ltb}
-use Rattle.std.proofs.lemmas.List.{take_all}
 use Rattle.std.proofs.lemmas.List.Sums.{prefix_len-le-length}
 use Rattle.script.specs.Cuts.{front}
 
@@ -24,9 +23,13 @@ place_or_all p xs =
     (λ ge. ap (λ o. unwrap_or o (length xs)) (cond-false _ _ _ (le-ltb n (length xs) ge)) ∙ omega (arith, prefix_len-le-length (λ b. not (p b)) xs))
     (cases_lt n (length xs))
 
--- the part from a place on, by the place of the separator behind it, if there is one
-pub front_from : (s place end : ℕ) (xs : List ℕ) (o : Option ℕ) → let rest = take (length xs - place) (drop place xs) in o ≡ position (λ b. b == s) rest → end ≡ unwrap_or o (length rest) → take end rest ≡ front s (drop place xs)
-front_from s place end xs o found is =
-    let rest = take (length xs - place) (drop place xs) in
-    let whole : rest ≡ drop place xs = take_all (length xs - place) (drop place xs) (simp length-drop (omega arith)) in
-    ap (λ n. take n rest) (is ∙ ap (λ p. unwrap_or p (length rest)) found ∙ place_or_all (λ b. b == s) rest) ∙ front_is s rest ∙ ap (front s) whole
+module _ (s end : ℕ) (xs : List ℕ) (o : Option ℕ) (found : o ≡ position (λ b. b == s) xs) (is : end ≡ unwrap_or o (length xs)) where
+  at_separator : end ≡ position_or_len (λ b. b == s) xs
+  at_separator = is ∙ ap (λ p. unwrap_or p (length xs)) found ∙ place_or_all (λ b. b == s) xs
+
+  -- up to the place of the separator, if there is one, or all
+  pub front_at : take end xs ≡ front s xs
+  front_at = ap (λ n. take n xs) at_separator ∙ front_is s xs
+
+  pub end_inside : end ≤ length xs
+  end_inside = omega (arith, at_separator, prefix_len-le-length (λ b. not (b == s)) xs)

@@ -1,9 +1,9 @@
 -- What reading numbers one by one keeps. Assumes nothing.
 use Rattle.std.proofs.Common.{◌≡◌, ℕ, ◌+◌, ◌<◌, ◌≤◌, List, [], ◌∷◌, ◌++◌, length, take, set, replicate, Ok, Err, Result, sym, refl, ap, ◌∙◌, arith}
 use Rattle.std.proofs.lemmas.List.{take_more_set, take_all, append-nil, append_assoc, length-set, length-replicate, nil_from_length}
-use Rattle.script.specs.declared.reader.Reader.{Reader}
+use Rattle.script.specs.declared.words.Words.{Words}
 use Rattle.script.specs.Commands.{in_front, numbers_in}
-use Rattle.script.specs.Readers.{words_left}
+use Rattle.script.specs.Parts.{words_left}
 use Rattle.script.specs.Reading.{numbers_left, OneLess}
 use Rattle.script.specs.Faults.{LineFault}
 
@@ -21,16 +21,16 @@ ahead_none (Ok ns) = refl
 ahead_none (Err f) = refl
 
 -- from `begin` to `now`, i of N numbers are read
-pub record Going (begin now : Reader) (N i : ℕ) (all : List ℕ) : Type 0 where
+pub record Going (begin now : Words) (N i : ℕ) (all : List ℕ) : Type 0 where
   pub left : length (words_left now) + i ≡ N
   pub long : length all ≡ N
   pub whole : ahead (take i all) (numbers_left now) ≡ numbers_left begin
 
-pub begun : (r : Reader) (N : ℕ) → length (words_left r) ≡ N → Going r r N 0 (replicate N 0)
+pub begun : (r : Words) (N : ℕ) → length (words_left r) ≡ N → Going r r N 0 (replicate N 0)
 begun r N some = record { left = omega arith; long = length-replicate N 0; whole = ahead_none (numbers_left r) }
 
-module _ {begin now : Reader} {N i : ℕ} {all : List ℕ} (go : Going begin now N i all) where
-  pub onward : (next : Reader) (n : ℕ) → i < N → numbers_left now ≡ in_front n (numbers_left next) → OneLess now next → Going begin next N (i + 1) (set all i n)
+module _ {begin now : Words} {N i : ℕ} {all : List ℕ} (go : Going begin now N i all) where
+  pub onward : (next : Words) (n : ℕ) → i < N → numbers_left now ≡ in_front n (numbers_left next) → OneLess now next → Going begin next N (i + 1) (set all i n)
   onward next n more is less =
       let room : i < length all = omega (arith, go.long) in
       record {

@@ -1,19 +1,15 @@
 -- A line from its letter on. Assumes nothing.
-use Rattle.std.proofs.Common.{◌≡◌, ℕ, ◌+◌, Bool, true, false, cond, eqb, List, length, Ok, Err, Result, sym, refl, ap, ◌∙◌, arith, le-leb}
+use Rattle.std.proofs.Common.{◌≡◌, ℕ, ◌+◌, Bool, true, false, cond, eqb, List, length, Ok, Err, Result, sym, refl, ap, ◌∙◌, arith}
 use Rattle.std.proofs.lemmas.Bool.{cond-true, cond-false, eqb-true, eqb-false, eq-eqb, ne_eqb}
 use Rattle.script.specs.declared.letter.Letter.{Letter}
 use Rattle.script.specs.declared.fault.LineCause.TheVariants.{WordCount}
-use Rattle.script.specs.declared.reader.Reader.{Reader}
+use Rattle.script.specs.declared.words.Words.{Words}
 use Rattle.script.specs.Commands.{counted, called, from_letter, line_says}
 use Rattle.script.specs.Cuts.{words}
 use Rattle.script.specs.Faults.{fault_at, LineFault}
 use Rattle.script.specs.Letters.{numbers_after}
-use Rattle.script.specs.Readers.{text, words_from, words_left}
+use Rattle.script.specs.Parts.{words_left}
 use Rattle.script.specs.Reading.{numbers_left, FirstLetter}
-
-words_from_start : (line : List ℕ) → words_from 0 line ≡ words line
-unfolding words_from
-words_from_start line = cond-true _ _ _ (le-leb 0 (length line) (omega arith))
 
 -- what a test that refuses tells
 passed : (t : Bool) (g : LineFault) (o : Result (Unit {0}) LineFault) → o ≡ cond t (Ok tt) (Err g) → o ≡ Ok tt → t ≡ true
@@ -24,19 +20,16 @@ refused : (t : Bool) (g f : LineFault) (o : Result (Unit {0}) LineFault) → o �
 refused true g f o weighed wrong = absurd (cc)
 refused false g f o weighed wrong = (refl, (cc))
 
--- a reader at the start of a line
-module _ (line : List ℕ) (r : Reader) (start : r.place ≡ 0) (same : text r ≡ line) where
-  all_words : words_left r ≡ words line
-  all_words = ap (λ p. words_from p (text r)) start ∙ ap (words_from 0) same ∙ words_from_start line
-
+-- at the start of a line
+module _ (line : List ℕ) (r : Words) (start : r.place ≡ 0) (all_words : words_left r ≡ words line) where
   from_here : line_says line ≡ from_letter (length line) r.place (words_left r)
   unfolding line_says
   from_here = sym (ap (λ p. from_letter (length line) p (words_left r)) start ∙ ap (from_letter (length line) 0) all_words)
 
-  pub no_letter : (s : Reader) (f : LineFault) → FirstLetter r s (Err f) → Err f ≡ line_says line
+  pub no_letter : (s : Words) (f : LineFault) → FirstLetter r s (Err f) → Err f ≡ line_says line
   no_letter s f none = sym (from_here ∙ none (length line))
 
-  module _ (s : Reader) (l : Letter) (first : FirstLetter r s (Ok l)) (o : Result (Unit {0}) LineFault) (weighed : o ≡ counted line l) where
+  module _ (s : Words) (l : Letter) (first : FirstLetter r s (Ok l)) (o : Result (Unit {0}) LineFault) (weighed : o ≡ counted line l) where
     counts : length (words line) ≡ length (words_left s) + 1
     counts = sym (ap length all_words) ∙ first.1
 

@@ -1,10 +1,13 @@
 -- The parts of bytes, one by one. Assumes nothing.
-use Rattle.std.proofs.Common.{◌≡◌, ℕ, suc, ◌+◌, ◌<◌, ◌≤◌, true, false, cond, eqb, leb, List, [], ◌∷◌, length, drop, sym, refl, ap, ◌∙◌, ⊎_elim, arith, length-drop, le-leb}
-use borrow.Author.Tests.{lt-leb}
-use Rattle.std.proofs.lemmas.List.{drop-drop, drop_all}
-use Rattle.std.proofs.lemmas.Bool.{cases_lt, cond-true, cond-false}
+use Rattle.std.proofs.Common.{◌≡◌, ℕ, suc, ◌+◌, ◌<◌, ◌≤◌, ◌==◌, true, false, cond, eqb, List, [], ◌∷◌, length, take, drop, Some, None, Option, sym, refl, ap, ◌∙◌, ⊎_elim, arith, length-drop, length-take}
+use Rattle.std.specs.Slice.{IsGetRangeResult}
+use Rattle.std.specs.Borrow.{Bor}
+use Rattle.std.specs.List.{position}
+use Rattle.std.specs.Prelude.{unwrap_or, MatchOption}
+use Rattle.std.proofs.lemmas.List.{take_all}
 use Rattle.script.specs.Cuts.{onto, cut, lines_of, front}
-use Rattle.script.specs.Readers.{words_from}
+use Rattle.script.specs.Parts.{parts_behind, FirstPart}
+use Rattle.script.proofs.Fronts.{front_at, end_inside}
 
 -- what follows the first part: the parts behind its separator, or, without one, what `none` has behind its first
 pub rest : ℕ → List (List ℕ) → List ℕ → List (List ℕ)
@@ -48,57 +51,49 @@ module _ (s : ℕ) where
       elim (eqb b s) as (λ t. suc (length bs) ≤ length (cond t [] (b ∷ front s bs)) → cond t (cut s none bs) (rest s none bs) ≡ [])
       [ true ↦ λ le. absurd (omega arith) | false ↦ λ le. rest_none none bs (omega arith) ] h
 
-  -- what follows the part at a place, by the next place
-  module _ (xs : List ℕ) (p q : ℕ) (inside : p ≤ length xs) (next : q ≡ p + length (front s (drop p xs)) + 1) where
-    behind : (none : List (List ℕ)) → length (front s (drop p xs)) < length (drop p xs) → rest s none (drop p xs) ≡ cut s none (drop q xs)
-    behind none lt =
-        let same : p + suc (length (front s (drop p xs))) ≡ q = omega arith in
-        rest_behind none (drop p xs) lt ∙ ap (cut s none) (drop-drop (suc (length (front s (drop p xs)))) p xs ∙ ap (λ n. drop n xs) same)
+  module _ (bs : List ℕ) (end : ℕ) (long : length (front s bs) ≡ end) where
+    others : (none : List (List ℕ)) (behind : Option (Bor (List ℕ))) → IsGetRangeResult bs (end + 1) (length bs) behind → rest s none bs ≡ parts_behind s none behind
+    others none None got = ⊎_elim (λ past. rest_none none bs (omega (arith, long))) (λ never. absurd (omega arith)) got.0
+    others none (Some more) got =
+        let same : more.now ≡ drop (end + 1) bs = got.0.2 ∙ take_all _ _ (simp length-drop (omega arith)) in
+        let on : suc (length (front s bs)) ≡ end + 1 = omega (arith, long) in
+        rest_behind none bs (omega (arith, long, got.0.1)) ∙ ap (cut s none) (ap (λ n. drop n bs) on ∙ sym same)
 
-    words_behind : rest s ([] ∷ []) (drop p xs) ≡ cond (leb q (length xs)) (cut s ([] ∷ []) (drop q xs)) []
-    words_behind =
-        let all = length-drop p xs in
-        ⊎_elim
-        (λ lt.
-        let within : leb q (length xs) ≡ true = le-leb q (length xs) (omega arith) in
-        behind ([] ∷ []) lt ∙ sym (cond-true _ _ _ within))
-        (λ ge.
-        let past : leb q (length xs) ≡ false = lt-leb q (length xs) (omega arith) in
-        rest_none ([] ∷ []) (drop p xs) ge ∙ sym (cond-false _ _ _ past))
-        (cases_lt (length (front s (drop p xs))) (length (drop p xs)))
+    sizes : (behind : Option (Bor (List ℕ))) → IsGetRangeResult bs (end + 1) (length bs) behind → end ≤ length bs → MatchOption behind (end ≡ length bs) (λ more. length bs ≡ end + 1 + length more.now)
+    sizes None got inside = ⊎_elim (λ past. omega arith) (λ never. absurd (omega arith)) got.0
+    sizes (Some more) got inside = omega (arith, got.0.3)
 
-    lines_behind : rest s [] (drop p xs) ≡ cut s [] (drop q xs)
-    unfolding cut
-    lines_behind =
-        let all = length-drop p xs in
-        ⊎_elim
-        (λ lt. behind [] lt)
-        (λ ge. rest_none [] (drop p xs) ge ∙ sym (ap (cut s []) (drop_all q xs (omega arith))))
-        (cases_lt (length (front s (drop p xs))) (length (drop p xs)))
+  pub first_part : (bs : List ℕ) (end : ℕ) (o : Option ℕ) (behind : Option (Bor (List ℕ))) → o ≡ position (λ b. b == s) bs → end ≡ unwrap_or o (length bs) → IsGetRangeResult bs (end + 1) (length bs) behind → FirstPart s bs (take end bs) behind
+  first_part bs end o behind found is got =
+      let inside = end_inside s end bs o found is in
+      let at = front_at s end bs o found is in
+      let whole : length (take end bs) ≡ end = simp length-take (omega (arith, inside)) in
+      let long : length (front s bs) ≡ end = ap length (sym at) ∙ whole in
+      record {
+        words = word_step bs ∙ ap (λ p. p ∷ rest s ([] ∷ []) bs) (sym at) ∙ ap (λ ps. take end bs ∷ ps) (others bs end long ([] ∷ []) behind got);
+        lines = λ some. line_step bs some ∙ ap (λ p. p ∷ rest s [] bs) (sym at) ∙ ap (λ ps. take end bs ∷ ps) (others bs end long [] behind got);
+        size = rw whole (sizes bs end long behind got inside);
+      }
 
--- past the part at p, at q, the others are to come
-module _ (xs part : List ℕ) (p q : ℕ) (next : q ≡ p + length part + 1) where
-  pub next_line : part ≡ front 10 (drop p xs) → p < length xs → lines_of (drop p xs) ≡ part ∷ lines_of (drop q xs)
-  next_line is inside =
-      let at : q ≡ p + length (front 10 (drop p xs)) + 1 = next ∙ ap (λ l. p + length l + 1) is in
-      let some : 0 < length (drop p xs) = simp length-drop (omega arith) in
-      line_step 10 (drop p xs) some
-      ∙ ap (λ ls. front 10 (drop p xs) ∷ ls) (lines_behind 10 xs p q (omega arith) at)
-      ∙ ap (λ l. l ∷ lines_of (drop q xs)) (sym is)
+-- a part has at least one byte, or a separator
+more_parts : (b : ℕ) (parts : List (List ℕ)) → length (onto b parts) ≤ suc (length parts)
+more_parts b [] = omega arith
+more_parts b (part ∷ parts) = omega arith
 
-  pub next_word : part ≡ front 32 (drop p xs) → p ≤ length xs → words_from p xs ≡ part ∷ words_from q xs
-  unfolding words_from
-  next_word is inside =
-      let at : q ≡ p + length (front 32 (drop p xs)) + 1 = next ∙ ap (λ l. p + length l + 1) is in
-      let here : leb p (length xs) ≡ true = le-leb _ _ inside in
-      cond-true _ _ _ here ∙ word_step 32 (drop p xs)
-      ∙ ap (λ ws. front 32 (drop p xs) ∷ ws) (words_behind 32 xs p q inside at)
-      ∙ ap (λ l. l ∷ words_from q xs) (sym is)
-
-pub no_line : (xs : List ℕ) (p : ℕ) → length xs ≤ p → lines_of (drop p xs) ≡ []
+pub line_count : (bs : List ℕ) → length (lines_of bs) ≤ length bs
 unfolding cut
-no_line xs p past = ap lines_of (drop_all p xs past)
+line_count [] = omega arith
+line_count (b ∷ bs) =
+    elim (eqb b 10) as (λ t. length (cond t ([] ∷ lines_of bs) (onto b (lines_of bs))) ≤ suc (length bs))
+    [ true ↦ omega (arith, line_count bs) | false ↦ omega (arith, line_count bs, more_parts b (lines_of bs)) ]
 
-pub no_word : (xs : List ℕ) (p : ℕ) → length xs < p → words_from p xs ≡ []
-unfolding words_from
-no_word xs p past = cond-false _ _ _ (lt-leb p (length xs) past)
+pub no_line : (bs : List ℕ) → length bs ≤ 0 → lines_of bs ≡ []
+unfolding cut
+no_line [] h = refl
+no_line (b ∷ bs) h = absurd (omega arith)
+
+-- where nothing is behind a line, none are the lines to come
+pub next_line : (bs part : List ℕ) (behind : Option (Bor (List ℕ))) (none left : Bor (List ℕ)) → FirstPart 10 bs part behind → 0 < length bs → none.now ≡ [] → left ≡ unwrap_or behind none → lines_of bs ≡ part ∷ lines_of left.now
+unfolding cut
+next_line bs part None none left first some empty is = first.lines some ∙ ap (λ ls. part ∷ ls) (sym (ap (λ l. lines_of l.now) is ∙ ap lines_of empty))
+next_line bs part (Some more) none left first some empty is = first.lines some ∙ ap (λ ls. part ∷ ls) (sym (ap (λ l. lines_of l.now) is))

@@ -31,14 +31,6 @@ LineFault = Placed LineCause
 abbrev pub fault_at : ℕ → LineCause → LineFault
 fault_at p c = record { place = p; cause = c }
 
--- a line's fault with the line's number, as it is listed
-abbrev pub on_line : ℕ → LineFault → Fault
-on_line n f = fault.Line n f
-
--- a list's fault, as it is listed
-abbrev pub in_list : ListFault → Fault
-in_list f = fault.List f
-
 -- the line that a fault is in, unless the whole input is at fault
 abbrev pub faulty_line : Fault → Option ℕ
 faulty_line (fault.File f) = None

@@ -3,9 +3,8 @@ pub mod Cuts
 pub mod Faults
 pub mod Letters
 pub mod Listing
-pub mod BookFaults
 pub mod Numbers
-pub mod Readers
+pub mod Parts
 pub mod Reading
 pub mod Shown
 pub mod Turns

@@ -4,16 +4,17 @@ use Rattle.calls.specs.declared.call.Call.{Call}
 use Rattle.script.specs.declared.fault.ListFault.{ListFault}
 use Rattle.script.specs.declared.fault.ListFault.TheVariants.{TooLong}
 use Rattle.script.specs.declared.listing.Fault.{Fault}
+use Rattle.script.specs.declared.listing.Fault.TheVariants.{Line}
 use Rattle.script.specs.declared.turns.Turns.{Turns}
 use Rattle.script.specs.Commands.{line_says}
 use Rattle.script.specs.Cuts.{lines_of, LinesOfBytes}
-use Rattle.script.specs.Faults.{most_bytes, on_line, LineFault}
-use Rattle.script.specs.Readers.{lines_left}
+use Rattle.script.specs.Faults.{most_bytes, LineFault}
+use Rattle.script.specs.Parts.{lines_left}
 
 -- a call, or a fault that names its line
 abbrev pub numbered : ℕ → Result Call LineFault → Result Call Fault
 numbered n (Ok c) = Ok c
-numbered n (Err f) = Err (on_line n f)
+numbered n (Err f) = Err (Line n f)
 
 -- lines with their numbers, from n on
 abbrev pub items_from : ℕ → List (List ℕ) → List (Result Call Fault)
@@ -26,7 +27,7 @@ items bytes = items_from 1 (lines_of bytes)
 
 -- what is still to come of a list
 abbrev pub items_left : Turns → List (Result Call Fault)
-items_left t = items_from (t.lines + 1) (lines_left t.reader)
+items_left t = items_from (t.count + 1) (lines_left t.lines)
 
 -- a list that is not too long, none of it read, and whose lines are its bytes
 abbrev pub Admitted : List ℕ → Result Turns ListFault → Type 0

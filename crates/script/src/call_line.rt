@@ -7,9 +7,11 @@ use calls::order::Order;
 use std::fmt;
 
 // The line that is read as this call, without its newline.
+// Kept a struct: with `Display` in `calls` the text of the turn list would stand there too.
 #[derive(Clone, Copy)]
 pub struct CallLine(pub Call);
 
+// Kept the letters inside the texts: to show a `Letter` there, each line would first have to name one.
 impl fmt::Display for CallLine {
     ghost output = { λ l. Some (call_bytes l.0) };
 

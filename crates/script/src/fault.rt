@@ -16,7 +16,7 @@ pub enum LineCause {
 }
 
 impl LineCause {
-    // The number that users see.
+    // The number that users see. Kept a method: `From` would read as if the number were the fault.
     pub fn number(self) -> u32
         ensures { result ≡ line_cause_number self }
     {
@@ -38,7 +38,7 @@ pub enum ListFault {
 }
 
 impl ListFault {
-    // The number that users see.
+    // The number that users see. Kept a method: `From` would read as if the number were the fault.
     pub fn number(self) -> u32
         ensures { result ≡ list_fault_number self }
     {

@@ -14,6 +14,7 @@ pub enum Letter {
 }
 
 // The letter that a word is, which is then all of the word.
+// Kept beside the four letters of `fmt`: a table would have to be looked through, with a proof that it finds; two matches are plainer.
 impl TryFrom<&[u8]> for Letter {
     type Error = LineCause;
 

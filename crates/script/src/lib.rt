@@ -3,10 +3,12 @@
 
 pub mod call_line;
 pub mod command;
+mod cut;
 pub mod fault;
 pub mod letter;
+pub mod lines;
 pub mod listing;
 pub mod number;
-pub mod reader;
 pub mod turns;
 pub mod word;
+pub mod words;

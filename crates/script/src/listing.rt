@@ -1,9 +1,9 @@
 // The lines of a listing. Each shows with its newline.
 ghost use Rattle.std.specs.Option.{option_map};
 ghost use Rattle.std.specs.Prelude.{◌≡◌, Some};
-ghost use Rattle.script.specs.BookFaults.{printed};
-ghost use Rattle.script.specs.Faults.{in_list, faulty_line, fault_number, fault_place, fault_cause};
+ghost use Rattle.script.specs.Faults.{faulty_line, fault_number, fault_place, fault_cause};
 ghost use Rattle.script.specs.Listing.{look_line, fault_line, answer_bytes, listing_line};
+ghost use Rattle.script.specs.declared.listing.Fault.TheVariants.{File, List};
 
 use crate::fault::{LineFault, ListFault, MOST_BYTES};
 use crate::letter::Letter;
@@ -15,6 +15,7 @@ use std::fmt;
 use survey::fault::ValueFault;
 
 // A line of a book, with the value that it holds.
+// Kept beside the writes of a job, which have a line and a value too, but are never shown.
 #[derive(Clone, Copy)]
 pub struct LookLine<V> {
     pub line: usize,
@@ -38,23 +39,24 @@ pub enum Fault {
     File(FileFault),
     // A turn list is faulty as a whole.
     List(ListFault),
-    // A line of a turn list is faulty. Lines are numbered from 1.
+    // A line of a turn list is faulty. Lines are numbered from 1; a line 0 is none, and prints as the whole input.
+    // Kept a plain number: who counts the lines would have to make a `NonZero` of each count.
     Line { line: usize, fault: LineFault },
 }
 
 impl From<FileFault> for Fault {
-    ghost from_gives = { λ fault r. r ≡ printed fault };
+    ghost from_gives = { λ fault r. r ≡ File fault };
 
-    fn from(fault: FileFault) -> Fault {
-        Fault::File(fault)
+    fn from(file_fault: FileFault) -> Fault {
+        Fault::File(file_fault)
     }
 }
 
 impl From<ListFault> for Fault {
-    ghost from_gives = { λ fault r. r ≡ in_list fault };
+    ghost from_gives = { λ fault r. r ≡ List fault };
 
-    fn from(fault: ListFault) -> Fault {
-        Fault::List(fault)
+    fn from(list_fault: ListFault) -> Fault {
+        Fault::List(list_fault)
     }
 }
 
@@ -69,7 +71,7 @@ impl Fault {
         }
     }
 
-    // The number that users see.
+    // The number that users see. Kept a method: `From` would read as if the number were the fault.
     pub fn number(self) -> u32
         ensures { result ≡ fault_number self }
     {
@@ -114,7 +116,7 @@ impl fmt::Display for Fault {
     }
 }
 
-// The words of an answer, inside a line. An answer has no text of its own: it is another crate's type.
+// The words of an answer, inside a line. Kept a struct: with `Display` in `calls` the text of the listing would stand there too.
 #[derive(Clone, Copy)]
 struct AnswerWords(Answer);
 
@@ -159,6 +161,7 @@ pub enum ListingLine<V> {
     Faulty(Fault),
 }
 
+// Kept the letters of the lines inside their texts: to show a `Letter` there, each line would first have to name one.
 impl<V: fmt::Display> fmt::Display for ListingLine<V> {
     ghost output = { λ l. listing_line V.Display.output l };
 

@@ -21,6 +21,7 @@ fn digits_value(word: &[u8]) -> Option<u64>
 }
 
 // A word of few digits, the first of which is no needless zero, and the number not too large.
+// Kept apart from `number`, which adds the law once, and not at each of these answers.
 fn checked_value(word: &[u8]) -> Option<u32>
     ensures { result ≡ number_of word.now }
 {

@@ -1,14 +1,16 @@
 // A turn list, line by line.
-ghost use Rattle.std.specs.Prelude.{◌≤◌, length};
+ghost use Rattle.std.specs.Prelude.{◌+◌, ◌^◌, ◌≤◌, length};
+ghost use Rattle.script.specs.Parts.{lines_left};
 
-use crate::reader::Reader;
+use crate::lines::Lines;
 
 mod methods;
 
-// The lines that were read are no more than the bytes.
+// The lines that are left, and how many were read.
+// Kept a count and no `Enumerate` (not tried): what is left is said by the lines alone, and one more field is plain.
 #[derive(Drop)]
 pub struct Turns<'a> {
-    reader: Reader<'a>,
-    lines: usize,
-    ghost counted: { lines ≤ reader.place },
+    lines: Lines<'a>,
+    count: usize,
+    ghost counted: { count + length (lines_left lines) ≤ 2 ^ 63 },
 }

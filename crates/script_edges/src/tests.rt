@@ -9,9 +9,9 @@ use script::command::call_in;
 use script::letter::Letter;
 use script::listing::{Fault, ListingLine, LookLine};
 use script::number::number;
-use script::reader::Reader;
 use script::turns::Turns;
 use script::word::WordKind;
+use script::words::Words;
 use std::alloc::Global;
 use std::fmt::Write;
 use std::process::Abort;
@@ -46,8 +46,7 @@ fn numbers(rt: HostRuntime) {
 // The words of a line, each by its kind and place.
 fn described(heap: Global, line: &[u8]) -> Result<String, Fail> {
     let mut text = String::new(heap);
-    let mut words = Reader::new(line);
-    while let Some(word) = words.word() {
+    for word in Words::new(line) {
         let place = word.place;
         match word.kind {
             WordKind::Letter(letter) => write!(text, "letter {letter} at {place};")?,
@@ -127,7 +126,7 @@ fn calls_and_their_lines(rt: HostRuntime) -> Result<(), Fail> {
     Ok(())
 }
 
-// The place and the number of a line's fault; a call has none.
+// The place and the number of a line's fault; a call has none. Kept numbers: the tables keep the values that they had.
 fn fault_of(line: &[u8]) -> (usize, u32) {
     match call_in(line) {
         Ok(_) => (0, 0),

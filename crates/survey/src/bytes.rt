@@ -6,6 +6,7 @@ pub fn put(out: &mut [u8], place: usize, bytes: &[u8]) -> Option<usize>
     ensures { Puts out.old place bytes.now out.new result }
 {
     let end = place.checked_add(bytes.len())?;
+    // Kept a test: of `get_mut` it is not known what the slice holds after a write through what it gives.
     if end > out.len() {
         return None;
     }

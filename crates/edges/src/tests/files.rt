@@ -17,6 +17,7 @@ const BLANK: LegRow = LegRow {
 };
 
 // The fault of a file for a book of three legs: its number, its place and its cause; zeros where there is none.
+// Kept numbers: the tables keep the values that they had.
 fn fault(file: &[u8]) -> (u32, usize, u32) {
     let mut memory = [BLANK; 3];
     match load(file, &mut FlatBook::new(&mut memory)) {

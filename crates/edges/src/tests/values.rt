@@ -3,12 +3,11 @@ use survey::leg::{Leg, LegRow};
 use survey::metres::{Metres, MetresRow};
 use survey::row::Row;
 
-// The number of the fault of four numbers, or 0 where they are a leg.
+// The number of the fault of four numbers, or 0 where they are a leg. Kept a number: the tables keep the values that they had.
 fn leg_fault(from: u32, to: u32, passage: u32, length: u32) -> u32 {
-    match Leg::new(from, to, passage, length) {
-        Ok(_) => 0,
-        Err(fault) => fault.number(),
-    }
+    Leg::new(from, to, passage, length)
+        .err()
+        .map_or(0, |fault| fault.number())
 }
 
 #[test]
@@ -75,10 +74,9 @@ fn metres_at_their_edges(rt: HostRuntime) {
     ];
     for (count, fault, counted) in cases {
         let row = MetresRow { count };
-        let number = match Metres::try_from(row) {
-            Ok(_) => 0,
-            Err(e) => e.number(),
-        };
+        let number = Metres::try_from(row)
+            .err()
+            .map_or(0, |fault| fault.number());
         assert_eq!(rt; number, fault);
         assert_eq!(rt; row.or_blank().count(), counted);
     }

@@ -3,7 +3,7 @@ ghost use Rattle.families.specs.Laws.{CountsAreRight};
 ghost use Rattle.families.specs.Counts.{count};
 
 use super::{Count, Tally};
-use calls::ending::Ending;
+use calls::ending::{DONE, Ending};
 use calls::order::{BadOrder, Order};
 use jobs::family::Family;
 use jobs::request::Request;
@@ -44,7 +44,7 @@ impl Family for Count {
         match state {
             Ok(Tally { line, end, .. }) if line < end => Request::Read { line },
             Ok(Tally { sum, .. }) => Request::End(Ending {
-                code: 0,
+                code: DONE,
                 number: sum,
             }),
             Err(bad) => Request::End(Ending::from(bad)),

@@ -3,7 +3,7 @@ ghost use Rattle.std.specs.Prelude.{◌≡◌};
 ghost use Rattle.families.specs.Entries.{refused};
 
 use super::EntryRefusal;
-use calls::ending::Ending;
+use calls::ending::{Ending, REFUSED};
 use calls::order::BadOrder;
 
 impl From<EntryRefusal> for Ending {
@@ -12,7 +12,7 @@ impl From<EntryRefusal> for Ending {
     fn from(refusal: EntryRefusal) -> Ending {
         match refusal {
             EntryRefusal::Impossible(fault) => Ending {
-                code: 9,
+                code: REFUSED,
                 number: fault.number(),
             },
             EntryRefusal::BadOrder => Ending::from(BadOrder),

@@ -3,7 +3,7 @@ ghost use Rattle.families.specs.Laws.{EntriesAreRight};
 ghost use Rattle.families.specs.Entries.{entry};
 
 use super::{Entry, EntryRefusal, EntryState};
-use calls::ending::Ending;
+use calls::ending::{DONE, Ending};
 use calls::order::Order;
 use jobs::family::Family;
 use jobs::request::Request;
@@ -27,7 +27,7 @@ impl Family for Entry {
     ghost meaning = { λ _. entry };
 
     fn start(&self, order: Order) -> Self::State {
-        // kept a number: each family has its own kinds, and one that stands beside another counts on from that one's, so no enum names them all
+        // Kept a number: an enum of the two kinds would be matched right where it is made.
         match order.kind {
             0 => {
                 let leg = Leg::open(order.b, order.c, order.d)?;
@@ -45,7 +45,10 @@ impl Family for Entry {
         match state {
             Ok(EntryState::Closing { line }) => Request::Read { line },
             Ok(EntryState::Writing { line, row }) => Request::Write { line, value: row },
-            Ok(EntryState::Written) => Request::End(Ending { code: 0, number: 0 }),
+            Ok(EntryState::Written) => Request::End(Ending {
+                code: DONE,
+                number: 0,
+            }),
             Err(refusal) => Request::End(Ending::from(refusal)),
         }
     }

@@ -4,7 +4,7 @@ ghost use Rattle.families.specs.Laws.{TransfersAreRight};
 ghost use Rattle.families.specs.Transfers.{transfer, decided};
 
 use super::{Move, Transfer, TransferRefusal, TransferState};
-use calls::ending::Ending;
+use calls::ending::{DONE, Ending};
 use calls::order::Order;
 use jobs::family::Family;
 use jobs::request::Request;
@@ -70,7 +70,10 @@ impl Family for Transfer {
                 line: to,
                 value: MetresRow { count: total },
             },
-            Ok(TransferState::Given) => Request::End(Ending { code: 0, number: 0 }),
+            Ok(TransferState::Given) => Request::End(Ending {
+                code: DONE,
+                number: 0,
+            }),
             Err(refusal) => Request::End(Ending::from(refusal)),
         }
     }

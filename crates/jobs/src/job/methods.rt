@@ -22,6 +22,7 @@ use std::alloc::{AllocError, Global};
 pub const MOST_WRITES: usize = 16;
 
 // A turn answers the ending if the job ended, none if it goes on, and a refusal if it is stuck.
+// Kept two parameters, the family and the book: one struct of both would lend the book to be written where it is only read.
 impl<S: Copy, V: Copy> Job<S, V> {
     // The job of an order, before its first turn.
     pub fn start<F: Family<State = S, Value = V>>(
@@ -42,10 +43,10 @@ impl<S: Copy, V: Copy> Job<S, V> {
     fn value_of<B: Book<Value = V>>(&self, book: &B, line: u32) -> Result<V, Refusal>
         ensures { result ≡ ok_or (option_or (newest self.now.writes line) (slice_get (B.Book.lines book.now) line)) NoLine }
     {
-        match newest_write(&self.writes, line) {
-            Some(value) => Ok(value),
-            None => Ok(book.read(line as usize)?),
+        if let Some(value) = newest_write(&self.writes, line) {
+            return Ok(value);
         }
+        Ok(book.read(line as usize)?)
     }
 
     fn read<F: Family<State = S, Value = V>, B: Book<Value = V>>(

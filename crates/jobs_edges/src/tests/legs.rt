@@ -1,7 +1,7 @@
 // Entries and searches alone, side by side.
+use super::told;
 use book::book::Book;
 use book::flat::FlatBook;
-use calls::ending::Ending;
 use calls::order::Order;
 use families::entry::Entry;
 use jobs::alone::do_alone;
@@ -32,12 +32,7 @@ fn done(
     let (a, b, c, d) = numbers;
     let order = Order { kind, a, b, c, d };
     let mut book = FlatBook::new(&mut memory);
-    let came = match do_alone(heap, &pair, &mut book, order, 1000) {
-        Ok(Some(Ending { code, number })) => (0, code, number),
-        Ok(None) => (99, 0, 0),
-        Err(JobError::Stuck(refusal)) => (refusal.number(), 0, 0),
-        Err(error) => return Err(error),
-    };
+    let came = told(do_alone(heap, &pair, &mut book, order, 1000))?;
     match book.read(1) {
         Ok(row) => Ok((came, row)),
         Err(_) => Ok(((98, 0, 0), open(0, 0, 0))),

@@ -1,7 +1,7 @@
 // Transfers and counts alone, at their limits.
-use book::book::Book;
+use super::told;
 use book::flat::FlatBook;
-use calls::ending::Ending;
+use book::rows::Rows;
 use calls::order::Order;
 use families::count::Count;
 use families::transfer::Transfer;
@@ -39,17 +39,10 @@ fn done(
         d: 77,
     };
     let mut book = FlatBook::new(&mut memory);
-    let came = match do_alone(heap, &pair, &mut book, order, 100) {
-        Ok(Some(Ending { code, number })) => (0, code, number),
-        Ok(None) => (99, 0, 0),
-        Err(JobError::Stuck(refusal)) => (refusal.number(), 0, 0),
-        Err(error) => return Err(error),
-    };
+    let came = told(do_alone(heap, &pair, &mut book, order, 100))?;
     let mut after = [0; 4];
-    for line in 0..4 {
-        if let Ok(row) = book.read(line) {
-            after[line] = row.or_blank().count();
-        }
+    for (count, row) in after.iter_mut().zip(Rows::new(&book)) {
+        *count = row.or_blank().count();
     }
     Ok((came, after))
 }

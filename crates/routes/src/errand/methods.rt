@@ -2,7 +2,7 @@
 ghost use Rattle.routes.specs.Errands.{Accepts};
 
 use super::Errand;
-use crate::family::MOST_LINES;
+use crate::family::MOST_SEARCHED;
 use calls::order::{BadOrder, Order};
 use survey::leg::LAST_STATION;
 
@@ -16,10 +16,11 @@ impl TryFrom<Order> for Errand {
         if order.kind > 0
             || order.a > LAST_STATION
             || order.b > LAST_STATION
-            || order.c > MOST_LINES
+            || order.c > MOST_SEARCHED
         {
             return Err(BadOrder);
         }
+        // Kept casts: after these tests nothing is lost, and `u8::try_from` would answer an error that cannot come.
         Ok(Errand {
             from: order.a as u8,
             to: order.b as u8,

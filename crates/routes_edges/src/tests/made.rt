@@ -42,6 +42,7 @@ fn counts(row: LegRow) -> bool {
     row.from < 16 && row.to < 16 && row.passage == 1 && row.length >= 1 && row.length <= 10_000_000
 }
 
+// Kept the largest number for a station that is not reached: this is the other method, and owes nothing to the first.
 fn lower(distances: &mut [u32], from: u8, to: u8, length: u32) {
     let Some(near) = distances.get(from as usize) else {
         return;
@@ -79,11 +80,7 @@ fn compare_from(rt: &impl Abort, rows: &mut [LegRow], from: u32) {
     let count = rows.len().min(64) as u32;
     let book = FlatBook::new(rows);
     for (to, distance) in distances.iter().enumerate() {
-        let want = if *distance < u32::MAX {
-            Some(*distance)
-        } else {
-            None
-        };
+        let want = (*distance < u32::MAX).then_some(*distance);
         assert_eq!(rt; least_route(&book, from, to as u32, count), Ok(want));
     }
 }

@@ -43,6 +43,7 @@ fn a_bad_order_is_refused_before_a_missing_line(rt: HostRuntime) {
 }
 
 // What the first state of an order asks for: a line, or an end with its code and number.
+// Kept numbers: the tables keep the values that they had.
 fn first_request(kind: u32, a: u32, b: u32, c: u32, d: u32) -> (Option<u32>, u32, u32) {
     let order = Order { kind, a, b, c, d };
     match Route.request(Route.start(order)) {

@@ -94,6 +94,7 @@ fn closed_legs_are_passed_over(rt: HostRuntime) {
 
 // Lays a chain of the longest legs through all stations, in the order in which each pass from station 0 reaches one more.
 pub fn lay_chain(rows: &mut [LegRow]) {
+    // Kept an index: zipped with the numbers, `iter_mut` is not known to end (tried with a range and with an array).
     for i in 0..15u8 {
         if let Some(leg) = rows.get_mut(i as usize) {
             *leg = open_leg(15 - i, 14 - i, 10_000_000);

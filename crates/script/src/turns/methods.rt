@@ -8,8 +8,8 @@ ghost use Rattle.script.specs.Turns.{numbered, items, items_left, Admitted};
 use super::Turns;
 use crate::command::call_in;
 use crate::fault::{ListFault, MOST_BYTES};
+use crate::lines::Lines;
 use crate::listing::Fault;
-use crate::reader::Reader;
 use calls::call::Call;
 
 // What the line of this number says.
@@ -25,8 +25,8 @@ impl<'a> Turns<'a> {
         ensures items { items_left result ≡ items bytes.now }
         ensures lines { LinesOfBytes bytes.now (lines_of bytes.now) }
     {
-        let reader = Reader::new(bytes);
-        Turns { reader, lines: 0 }
+        let lines = Lines::new(bytes);
+        Turns { lines, count: 0 }
     }
 }
 
@@ -53,8 +53,8 @@ impl<'a> Iterator for Turns<'a> {
 
     // The call of the next line, or its fault. A faulty line spoils only itself.
     fn next(&mut self) -> Option<Result<Call, Fault>> {
-        let text = self.reader.line()?;
-        self.lines += 1;
-        Some(item(text, self.lines))
+        let text = self.lines.next()?;
+        self.count += 1;
+        Some(item(text, self.count))
     }
 }

@@ -73,6 +73,7 @@ impl Leg {
     pub fn passage(&self) -> Passage
         ensures { passage_number result ≡ self.now.row.passage }
     {
+        // Kept a match: of a leg the number is 0 or 1, and `Passage::try_from` would answer a fault that no leg has.
         match self.row.passage {
             0 => Passage::Closed,
             _ => Passage::Open,
@@ -111,9 +112,9 @@ impl TryFrom<LegRow> for Leg {
 
     fn try_from(row: LegRow) -> Result<Leg, ValueFault> {
         Leg::new(
-            row.from as u32,
-            row.to as u32,
-            row.passage as u32,
+            u32::from(row.from),
+            u32::from(row.to),
+            u32::from(row.passage),
             row.length,
         )
     }

@@ -1,5 +1,4 @@
-use Rattle.std.proofs.Common.{◌≡◌, None, Option, arith}
-use Rattle.survey.specs.declared.leg.LegRow.{LegRow}
+use Rattle.std.proofs.Common.{◌≡◌, None, arith}
 use Rattle.routes.specs.Searches.{route_family}
 use Rattle.routes.specs.Answers.{still, asked_row}
 use Rattle.jobs.proofs.Turns.{stands_since}
