@@ -45,4 +45,4 @@ module _ {begin now : Words} {N i : ℕ} {all : List ℕ} (go : Going begin now 
   pub ended : N ≤ i → Ok all ≡ numbers_left begin
   ended past =
       let none : words_left now ≡ [] = nil_from_length (words_left now) (omega (arith, go.left)) in
-      ap Ok (sym (append-nil (take i all) ∙ take_all i all (omega (arith, go.long)))) ∙ sym (ap (λ ws. ahead (take i all) (numbers_in now.place ws)) none) ∙ go.whole
+      ap Ok (sym (append-nil (take i all) ∙ take_all i all (omega (arith, go.long)))) ∙ sym (ap (λ ws. ahead (take i all) (numbers_in now.reader.place ws)) none) ∙ go.whole

@@ -21,8 +21,8 @@ refused true g f o weighed wrong = absurd (cc)
 refused false g f o weighed wrong = (refl, (cc))
 
 -- at the start of a line
-module _ (line : List ℕ) (r : Words) (start : r.place ≡ 0) (all_words : words_left r ≡ words line) where
-  from_here : line_says line ≡ from_letter (length line) r.place (words_left r)
+module _ (line : List ℕ) (r : Words) (start : r.reader.place ≡ 0) (all_words : words_left r ≡ words line) where
+  from_here : line_says line ≡ from_letter (length line) r.reader.place (words_left r)
   unfolding line_says
   from_here = sym (ap (λ p. from_letter (length line) p (words_left r)) start ∙ ap (from_letter (length line) 0) all_words)
 

@@ -1,12 +1,14 @@
 -- The parts of bytes, one by one. Assumes nothing.
-use Rattle.std.proofs.Common.{◌≡◌, ℕ, suc, ◌+◌, ◌<◌, ◌≤◌, ◌==◌, true, false, cond, eqb, List, [], ◌∷◌, length, take, drop, Some, None, Option, sym, refl, ap, ◌∙◌, ⊎_elim, arith, length-drop, length-take}
+use Rattle.std.proofs.Common.{◌≡◌, ℕ, suc, ◌+◌, ◌-◌, ◌<◌, ◌≤◌, ◌==◌, true, false, cond, eqb, leb, List, [], ◌∷◌, length, take, drop, Some, None, Option, sym, refl, ap, ◌∙◌, subst, ⊎_elim, arith, length-drop, length-take, le-leb}
 use Rattle.std.specs.Slice.{IsGetRangeResult}
 use Rattle.std.specs.Borrow.{Bor}
 use Rattle.std.specs.List.{position}
-use Rattle.std.specs.Prelude.{unwrap_or, MatchOption}
-use Rattle.std.proofs.lemmas.List.{take_all}
-use Rattle.script.specs.Cuts.{onto, cut, lines_of, front}
+use Rattle.std.specs.Prelude.{unwrap_or, MatchOption, IfSome}
+use Rattle.std.proofs.lemmas.List.{take_all, drop-drop, drop_all}
+use Rattle.std.proofs.lemmas.Bool.{lt-leb, cond-true, cond-false}
+use Rattle.script.specs.Cuts.{onto, cut, words, lines_of, front}
 use Rattle.script.specs.Parts.{parts_behind, FirstPart}
+use Rattle.script.specs.Readers.{words_from}
 use Rattle.script.proofs.Fronts.{front_at, end_inside}
 
 -- what follows the first part: the parts behind its separator, or, without one, what `none` has behind its first
@@ -59,6 +61,10 @@ module _ (s : ℕ) where
         let on : suc (length (front s bs)) ≡ end + 1 = omega (arith, long) in
         rest_behind none bs (omega (arith, long, got.0.1)) ∙ ap (cut s none) (ap (λ n. drop n bs) on ∙ sym same)
 
+    behind_is : (behind : Option (Bor (List ℕ))) → IsGetRangeResult bs (end + 1) (length bs) behind → IfSome behind (λ more. more.now ≡ drop (end + 1) bs)
+    behind_is None got = tt
+    behind_is (Some more) got = got.0.2 ∙ take_all _ _ (simp length-drop (omega arith))
+
     sizes : (behind : Option (Bor (List ℕ))) → IsGetRangeResult bs (end + 1) (length bs) behind → end ≤ length bs → MatchOption behind (end ≡ length bs) (λ more. length bs ≡ end + 1 + length more.now)
     sizes None got inside = ⊎_elim (λ past. omega arith) (λ never. absurd (omega arith)) got.0
     sizes (Some more) got inside = omega (arith, got.0.3)
@@ -73,6 +79,7 @@ module _ (s : ℕ) where
         words = word_step bs ∙ ap (λ p. p ∷ rest s ([] ∷ []) bs) (sym at) ∙ ap (λ ps. take end bs ∷ ps) (others bs end long ([] ∷ []) behind got);
         lines = λ some. line_step bs some ∙ ap (λ p. p ∷ rest s [] bs) (sym at) ∙ ap (λ ps. take end bs ∷ ps) (others bs end long [] behind got);
         size = rw whole (sizes bs end long behind got inside);
+        others = rw whole (behind_is bs end long behind got);
       }
 
 -- a part has at least one byte, or a separator
@@ -87,13 +94,53 @@ line_count (b ∷ bs) =
     elim (eqb b 10) as (λ t. length (cond t ([] ∷ lines_of bs) (onto b (lines_of bs))) ≤ suc (length bs))
     [ true ↦ omega (arith, line_count bs) | false ↦ omega (arith, line_count bs, more_parts b (lines_of bs)) ]
 
-pub no_line : (bs : List ℕ) → length bs ≤ 0 → lines_of bs ≡ []
-unfolding cut
-no_line [] h = refl
-no_line (b ∷ bs) h = absurd (omega arith)
+-- past the part at p, at q, the others are to come
+module _ (xs part : List ℕ) (p q : ℕ) (next : q ≡ p + length part + 1) where
+  from_place : (s : ℕ) (behind : Option (Bor (List ℕ))) → FirstPart s (take (length xs - p) (drop p xs)) part behind → FirstPart s (drop p xs) part behind
+  from_place s behind = subst (λ bs. FirstPart s bs part behind) (take_all (length xs - p) (drop p xs) (simp length-drop (omega arith)))
 
--- where nothing is behind a line, none are the lines to come
-pub next_line : (bs part : List ℕ) (behind : Option (Bor (List ℕ))) (none left : Bor (List ℕ)) → FirstPart 10 bs part behind → 0 < length bs → none.now ≡ [] → left ≡ unwrap_or behind none → lines_of bs ≡ part ∷ lines_of left.now
+  others_at : (more : Bor (List ℕ)) → more.now ≡ drop (length part + 1) (drop p xs) → more.now ≡ drop q xs
+  others_at more is =
+      let on : p + (length part + 1) ≡ q = omega (arith, next) in
+      is ∙ drop-drop (length part + 1) p xs ∙ ap (λ n. drop n xs) on
+
+  line_at : (behind : Option (Bor (List ℕ))) → FirstPart 10 (drop p xs) part behind → p < length xs → lines_of (drop p xs) ≡ part ∷ lines_of (drop q xs)
+  unfolding cut
+  line_at None first inside =
+      let all = length-drop p xs in
+      let past : length xs ≤ q = omega (arith, first.size, next) in
+      first.lines (omega arith) ∙ ap (λ ls. part ∷ ls) (sym (ap lines_of (drop_all q xs past)))
+  line_at (Some more) first inside =
+      let all = length-drop p xs in
+      first.lines (omega arith) ∙ ap (λ bs. part ∷ lines_of bs) (others_at more first.others)
+
+  word_at : (behind : Option (Bor (List ℕ))) → FirstPart 32 (drop p xs) part behind → p ≤ length xs → words_from p xs ≡ part ∷ words_from q xs
+  unfolding words_from
+  word_at None first inside =
+      let all = length-drop p xs in
+      let past : leb q (length xs) ≡ false = lt-leb q (length xs) (omega (arith, first.size, next)) in
+      cond-true _ _ _ (le-leb p (length xs) inside) ∙ first.words ∙ ap (λ ws. part ∷ ws) (sym (cond-false _ _ _ past))
+  word_at (Some more) first inside =
+      let all = length-drop p xs in
+      let within : leb q (length xs) ≡ true = le-leb q (length xs) (omega (arith, first.size, next)) in
+      cond-true _ _ _ (le-leb p (length xs) inside) ∙ first.words
+      ∙ ap (λ ws. part ∷ ws) (ap (cut 32 ([] ∷ [])) (others_at more first.others) ∙ sym (cond-true _ _ _ within))
+
+  module _ (s : ℕ) (behind : Option (Bor (List ℕ))) (first : FirstPart s (take (length xs - p) (drop p xs)) part behind) where
+    pub next_line : s ≡ 10 → p < length xs → lines_of (drop p xs) ≡ part ∷ lines_of (drop q xs)
+    next_line is = line_at behind (subst (λ t. FirstPart t (drop p xs) part behind) is (from_place s behind first))
+
+    pub next_word : s ≡ 32 → p ≤ length xs → words_from p xs ≡ part ∷ words_from q xs
+    next_word is = word_at behind (subst (λ t. FirstPart t (drop p xs) part behind) is (from_place s behind first))
+
+pub no_line : (xs : List ℕ) (p : ℕ) → length xs ≤ p → lines_of (drop p xs) ≡ []
 unfolding cut
-next_line bs part None none left first some empty is = first.lines some ∙ ap (λ ls. part ∷ ls) (sym (ap (λ l. lines_of l.now) is ∙ ap lines_of empty))
-next_line bs part (Some more) none left first some empty is = first.lines some ∙ ap (λ ls. part ∷ ls) (sym (ap (λ l. lines_of l.now) is))
+no_line xs p past = ap lines_of (drop_all p xs past)
+
+pub no_word : (xs : List ℕ) (p : ℕ) → length xs < p → words_from p xs ≡ []
+unfolding words_from
+no_word xs p past = cond-false _ _ _ (lt-leb p (length xs) past)
+
+pub words_from_start : (p : ℕ) (xs line : List ℕ) → p ≡ 0 → xs ≡ line → words_from p xs ≡ words line
+unfolding words_from
+words_from_start p xs line start is = ap (λ q. words_from q xs) start ∙ ap (words_from 0) is ∙ cond-true _ _ _ (le-leb 0 (length line) (omega arith))

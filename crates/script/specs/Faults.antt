@@ -1,5 +1,8 @@
 -- What can be wrong with a turn list, and what is listed of any fault. Assumes nothing.
-use Rattle.std.specs.Prelude.{ℕ, Some, None, Option}
+use Rattle.std.specs.Prelude.{ℕ, Bool, ◌==◌, Some, None, Option, unwrap_or}
+use Rattle.std.specs.Option.{option_map_or}
+use Rattle.std.specs.Ordering.{on, eq_of_both}
+use Rattle.survey.specs.Faults as value
 use Rattle.survey.specs.declared.fault.ValueFault.{ValueFault}
 use Rattle.bookfile.specs.Faults as file
 use Rattle.script.specs.declared.fault.LineCause.{LineCause}
@@ -9,6 +12,7 @@ use Rattle.script.specs.declared.fault.ListFault.{ListFault}
 use Rattle.script.specs.declared.fault.ListFault.TheVariants.{TooLong}
 use Rattle.script.specs.declared.listing.Fault.{Fault}
 use Rattle.script.specs.declared.listing.Fault.TheVariants as fault
+use Rattle.script.specs.declared.listing.FaultLine.{FaultLine}
 
 -- the numbers that users see
 abbrev pub line_cause_number : LineCause → ℕ
@@ -53,3 +57,11 @@ abbrev pub fault_cause : Fault → Option ValueFault
 fault_cause (fault.File f) = file.inner f.cause
 fault_cause (fault.List f) = None
 fault_cause (fault.Line n f) = None
+
+-- a fault as a listing shows it: a line or 0, a number, a place, and the number of what caused it or 0
+abbrev pub as_listed : Fault → FaultLine
+as_listed f = record { line = unwrap_or (faulty_line f) 0; number = fault_number f; place = fault_place f; cause = option_map_or value.number (fault_cause f) 0 }
+
+-- whether two faults show the same four numbers
+abbrev pub same_numbers : FaultLine → FaultLine → Bool
+same_numbers = eq_of_both (on (λ l. l.line) ◌==◌) (eq_of_both (on (λ l. l.number) ◌==◌) (eq_of_both (on (λ l. l.place) ◌==◌) (on (λ l. l.cause) ◌==◌)))

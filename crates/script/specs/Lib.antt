@@ -3,8 +3,10 @@ pub mod Cuts
 pub mod Faults
 pub mod Letters
 pub mod Listing
+pub mod Lists
 pub mod Numbers
 pub mod Parts
+pub mod Readers
 pub mod Reading
 pub mod Shown
 pub mod Turns

@@ -1,14 +1,14 @@
 -- The bytes of the lines of a listing. Assumes nothing.
-use Rattle.std.specs.Prelude.{ℕ, List, [], ◌∷◌, ◌++◌, Some, codes, decimal, Option, unwrap_or}
-use Rattle.std.specs.Option.{option_map, option_map_or}
-use Rattle.survey.specs.Faults as value
+use Rattle.std.specs.Prelude.{ℕ, List, [], ◌∷◌, ◌++◌, Some, codes, decimal, Option}
+use Rattle.std.specs.Option.{option_map}
 use Rattle.calls.specs.declared.answer.Answer.{Answer}
 use Rattle.calls.specs.declared.answer.Answer.TheVariants.{Read, Write, End, Back}
 use Rattle.calls.specs.Refusals.{refusal_number}
 use Rattle.script.specs.declared.listing.Fault.{Fault}
+use Rattle.script.specs.declared.listing.FaultLine.{FaultLine}
 use Rattle.script.specs.declared.listing.ListingLine.{ListingLine}
 use Rattle.script.specs.declared.listing.ListingLine.TheVariants as sort
-use Rattle.script.specs.Faults.{faulty_line, fault_number, fault_place, fault_cause}
+use Rattle.script.specs.Faults.{as_listed}
 use Rattle.script.specs.Letters.{letter_byte}
 
 -- a line of the book that was looked at, whose value shows as these bytes
@@ -16,10 +16,12 @@ abbrev pub look_line : ℕ → List ℕ → List ℕ
 look_line line value = codes "L " ++ (decimal line ++ (codes " " ++ (value ++ codes "\n")))
 
 -- what was wrong with the input: in which line of it, or 0 for the whole; which fault, where, and the fault of a value that caused it, or 0
+abbrev pub numbers_line : FaultLine → List ℕ
+numbers_line l =
+    codes "! " ++ (decimal l.line ++ (codes " " ++ (decimal l.number ++ (codes " " ++ (decimal l.place ++ (codes " " ++ (decimal l.cause ++ codes "\n")))))))
+
 abbrev pub fault_line : Fault → List ℕ
-fault_line f =
-    codes "! "
-    ++ (decimal (unwrap_or (faulty_line f) 0) ++ (codes " " ++ (decimal (fault_number f) ++ (codes " " ++ (decimal (fault_place f) ++ (codes " " ++ (decimal (option_map_or value.number (fault_cause f) 0) ++ codes "\n")))))))
+fault_line f = numbers_line (as_listed f)
 
 -- what a step answered
 abbrev pub answer_bytes : Answer → List ℕ
@@ -37,3 +39,4 @@ listing_line show (sort.Looked look) = option_map (look_line look.line) (show lo
 listing_line show (sort.Refused letter number refusal) =
     Some ((letter_byte letter ∷ []) ++ (codes " " ++ (decimal number ++ (codes " refused " ++ (decimal (refusal_number refusal) ++ codes "\n")))))
 listing_line show (sort.Faulty fault) = Some (fault_line fault)
+listing_line show (sort.Noted line) = Some (numbers_line line)

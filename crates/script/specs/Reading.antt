@@ -8,7 +8,7 @@ use Rattle.script.specs.Faults.{LineFault}
 
 -- the words to come, as numbers
 abbrev pub numbers_left : Words → Result (List ℕ) LineFault
-numbers_left r = numbers_in r.place (words_left r)
+numbers_left r = numbers_in r.reader.place (words_left r)
 
 -- one word is read
 abbrev pub OneLess : Words → Words → Type 0
@@ -21,5 +21,5 @@ NextNumber r s (Err f) = numbers_left r ≡ Err f
 
 -- the letter, and then what comes after it is to come, whatever the line's length; or there is no letter
 abbrev pub FirstLetter : Words → Words → Result Letter LineFault → Type 0
-FirstLetter r s (Ok l) = ((n : ℕ) → from_letter n r.place (words_left r) ≡ after_letter n (Some l) s.place (words_left s)) × OneLess r s
-FirstLetter r s (Err f) = (n : ℕ) → from_letter n r.place (words_left r) ≡ Err f
+FirstLetter r s (Ok l) = ((n : ℕ) → from_letter n r.reader.place (words_left r) ≡ after_letter n (Some l) s.reader.place (words_left s)) × OneLess r s
+FirstLetter r s (Err f) = (n : ℕ) → from_letter n r.reader.place (words_left r) ≡ Err f

@@ -29,7 +29,7 @@ items bytes = items_from 1 (lines_of bytes)
 abbrev pub items_left : Turns → List (Result Call Fault)
 items_left t = items_from (t.count + 1) (lines_left t.lines)
 
--- a list that is not too long, none of it read, and whose lines are its bytes
+-- the turns of a list that is not too long, none of it read, and whose lines are its bytes
 abbrev pub Admitted : List ℕ → Result Turns ListFault → Type 0
 Admitted bytes (Ok turns) = (length bytes ≤ most_bytes) × (items_left turns ≡ items bytes) × LinesOfBytes bytes (lines_of bytes)
 Admitted bytes (Err f) = (most_bytes < length bytes) × (f ≡ TooLong)

@@ -3,21 +3,26 @@ ghost use Rattle.std.specs.Prelude.{◌≡◌};
 ghost use Rattle.std.specs.Iterator.{YieldsFirstRef, item_count};
 ghost use Rattle.script.specs.Cuts.{lines_of};
 ghost use Rattle.script.specs.Parts.{lines_left};
+ghost use Rattle.script.specs.Readers.{text};
 
-use crate::cut::first_part;
+use crate::reader::Reader;
 
-// The bytes that are left.
+// The lines that a reader is still to read. Whoever needs a line's place too calls `Reader::line`.
+// Kept the law of std's iterators alone: with the place in it, a `fold` over lines was not proved.
 #[derive(Drop)]
 pub struct Lines<'a> {
-    left: &'a [u8],
+    pub reader: Reader<'a>,
 }
 
 impl<'a> Lines<'a> {
     // The lines of these bytes, from the first on.
     pub fn new(bytes: &'a [u8]) -> Lines<'a>
-        ensures { lines_left result ≡ lines_of bytes.now }
+        ensures place { result.reader.place ≡ 0 }
+        ensures text { text result.reader ≡ bytes.now }
+        ensures lines { lines_left result ≡ lines_of bytes.now }
     {
-        Lines { left: bytes }
+        let reader = Reader::new(bytes);
+        Lines { reader }
     }
 }
 
@@ -29,11 +34,6 @@ impl<'a> Iterator for Lines<'a> {
     ghost remaining = { item_count lines_left };
 
     fn next(&mut self) -> Option<&'a [u8]> {
-        if self.left.is_empty() {
-            return None;
-        }
-        let (line, behind) = first_part(self.left, b'\n');
-        self.left = behind.unwrap_or(&[]);
-        Some(line)
+        self.reader.line()
     }
 }

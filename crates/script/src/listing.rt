@@ -1,8 +1,11 @@
 // The lines of a listing. Each shows with its newline.
+ghost use Rattle.std.proofs.Common.{rules};
+ghost use Rattle.std.specs.Cmp.Rules.{comparing};
 ghost use Rattle.std.specs.Option.{option_map};
+ghost use Rattle.std.specs.Ordering.{on};
 ghost use Rattle.std.specs.Prelude.{◌≡◌, Some};
-ghost use Rattle.script.specs.Faults.{faulty_line, fault_number, fault_place, fault_cause};
-ghost use Rattle.script.specs.Listing.{look_line, fault_line, answer_bytes, listing_line};
+ghost use Rattle.script.specs.Faults.{faulty_line, fault_number, fault_place, fault_cause, as_listed, same_numbers};
+ghost use Rattle.script.specs.Listing.{look_line, numbers_line, fault_line, answer_bytes, listing_line};
 ghost use Rattle.script.specs.declared.listing.Fault.TheVariants.{File, List};
 
 use crate::fault::{LineFault, ListFault, MOST_BYTES};
@@ -32,8 +35,32 @@ impl<V: fmt::Display> fmt::Display for LookLine<V> {
     }
 }
 
-// What was wrong with the input.
+// A fault as a listing shows it: in which line of the turn list, from 1, or 0 for the whole input;
+// the fault's number; its place in bytes; and the number of what caused it, or 0.
 #[derive(Clone, Copy, Debug, PartialEq, Eq)]
+pub struct FaultLine {
+    pub line: usize,
+    pub number: u32,
+    pub place: usize,
+    pub cause: u32,
+}
+
+impl fmt::Display for FaultLine {
+    ghost output = { λ l. Some (numbers_line l) };
+
+    fn fmt<W: fmt::Write>(&self, f: &mut fmt::Formatter<W>) -> fmt::Result {
+        let FaultLine {
+            line,
+            number,
+            place,
+            cause,
+        } = *self;
+        write!(f, "! {line} {number} {place} {cause}\n")
+    }
+}
+
+// What was wrong with the input.
+#[derive(Clone, Copy, Debug)]
 pub enum Fault {
     // The file of a book is faulty.
     File(FileFault),
@@ -104,15 +131,40 @@ impl Fault {
     }
 }
 
+impl From<Fault> for FaultLine {
+    ghost from_gives = { λ fault r. r ≡ as_listed fault };
+
+    fn from(fault: Fault) -> FaultLine {
+        FaultLine {
+            line: fault.line().unwrap_or(0),
+            number: fault.number(),
+            place: fault.place(),
+            cause: fault.cause().map_or(0, |cause| cause.number()),
+        }
+    }
+}
+
+// Two faults are equal exactly where they show the same.
+impl PartialEq for Fault {
+    ghost eq = { on as_listed same_numbers };
+
+    ghost laws = { Prim.search (comparing, rules) depth 9 };
+
+    fn eq(&self, other: &Fault) -> bool {
+        FaultLine::from(*self) == FaultLine::from(*other)
+    }
+}
+
+impl Eq for Fault {
+    ghost laws = { Prim.search (comparing, rules) depth 9 };
+}
+
 impl fmt::Display for Fault {
     ghost output = { λ f. Some (fault_line f) };
 
     fn fmt<W: fmt::Write>(&self, f: &mut fmt::Formatter<W>) -> fmt::Result {
-        let line = self.line().unwrap_or(0);
-        let number = self.number();
-        let place = self.place();
-        let cause = self.cause().map_or(0, |fault| fault.number());
-        write!(f, "! {line} {number} {place} {cause}\n")
+        let line = FaultLine::from(*self);
+        write!(f, "{line}")
     }
 }
 
@@ -159,6 +211,8 @@ pub enum ListingLine<V> {
     },
     // There was something wrong with the line, or with the whole input.
     Faulty(Fault),
+    // The same, of which only the numbers are known.
+    Noted(FaultLine),
 }
 
 // Kept the letters of the lines inside their texts: to show a `Letter` there, each line would first have to name one.
@@ -183,6 +237,7 @@ impl<V: fmt::Display> fmt::Display for ListingLine<V> {
                 write!(f, "{letter} {number} refused {reason}\n")
             }
             ListingLine::Faulty(fault) => write!(f, "{fault}"),
+            ListingLine::Noted(line) => write!(f, "{line}"),
         }
     }
 }

@@ -7,8 +7,10 @@ use calls::refusal::Refusal;
 use script::call_line::CallLine;
 use script::command::call_in;
 use script::letter::Letter;
-use script::listing::{Fault, ListingLine, LookLine};
+use script::list::TurnList;
+use script::listing::{Fault, FaultLine, ListingLine, LookLine};
 use script::number::number;
+use script::reader::Reader;
 use script::turns::Turns;
 use script::word::WordKind;
 use script::words::Words;
@@ -78,6 +80,18 @@ fn words(rt: HostRuntime) -> Result<(), Fail> {
         assert_eq!(rt; text.as_str(), want);
     }
     Ok(())
+}
+
+#[test]
+fn lines_and_words_of_one_reader(rt: HostRuntime) {
+    let mut reader = Reader::new(b"T 0 x\nW 1");
+    let kind = reader.word().map(|word| word.kind);
+    assert!(rt; kind == Some(WordKind::Letter(Letter::Step)));
+    assert!(rt; reader.line().unwrap_or(b"none") == b"0 x".as_slice());
+    let place = reader.word().map(|word| word.place);
+    assert!(rt; place == Some(6));
+    assert!(rt; reader.line().unwrap_or(b"none") == b"1".as_slice());
+    assert!(rt; reader.line().is_none());
 }
 
 #[test]
@@ -183,12 +197,8 @@ fn malformed_lines(rt: HostRuntime) {
 }
 
 // Each line of a list as it was understood: the call's line again, or the fault.
-fn understood(heap: Global, bytes: &[u8]) -> Result<String, Fail> {
+fn all_turns(heap: Global, turns: Turns) -> Result<String, Fail> {
     let mut text = String::new(heap);
-    let turns = match Turns::try_from(bytes) {
-        Ok(turns) => turns,
-        Err(fault) => return Ok(Fault::from(fault).to_string(heap)?),
-    };
     for item in turns {
         match item {
             Ok(call) => {
@@ -199,6 +209,14 @@ fn understood(heap: Global, bytes: &[u8]) -> Result<String, Fail> {
         }
     }
     Ok(text)
+}
+
+// The same of a list's bytes, or the fault of the whole list.
+fn understood(heap: Global, bytes: &[u8]) -> Result<String, Fail> {
+    match Turns::try_from(bytes) {
+        Ok(turns) => all_turns(heap, turns),
+        Err(fault) => Ok(Fault::from(fault).to_string(heap)?),
+    }
 }
 
 #[test]
@@ -220,6 +238,16 @@ fn lists(rt: HostRuntime) -> Result<(), Fail> {
         let text = understood(rt.alloc(), bytes)?;
         assert_eq!(rt; text.as_str(), want);
     }
+    Ok(())
+}
+
+#[test]
+fn lists_gone_through_twice(rt: HostRuntime) -> Result<(), Fail> {
+    let list = TurnList::new(b"T 0\nT x\n")?;
+    let first = all_turns(rt.alloc(), list.turns())?;
+    let again = all_turns(rt.alloc(), list.turns())?;
+    assert_eq!(rt; first.as_str(), "T 0\n! 2 22 2 0\n");
+    assert_eq!(rt; again.as_str(), "T 0\n! 2 22 2 0\n");
     Ok(())
 }
 
@@ -320,4 +348,36 @@ fn other_listing_lines(rt: HostRuntime) -> Result<(), Fail> {
         ListingLine::Faulty(fault),
         "! 0 35 12 13\n",
     )
+}
+
+// The fault of a file at its first byte.
+fn file_fault(cause: FileCause) -> Fault {
+    Fault::from(FileFault { place: 0, cause })
+}
+
+#[test]
+fn equal_faults(rt: HostRuntime) {
+    assert!(rt; file_fault(FileCause::Lines) == file_fault(FileCause::Pairs));
+    assert!(rt; file_fault(FileCause::Lines) != file_fault(FileCause::Short));
+}
+
+#[test]
+fn noted_faults(rt: HostRuntime) -> Result<(), Fail> {
+    let cases = [
+        ((0, 36, 9, 0), "! 0 36 9 0\n"),
+        ((3, 31, 2, 0), "! 3 31 2 0\n"),
+        ((1, 0, 60_000, 13), "! 1 0 60000 13\n"),
+    ];
+    for ((line, number, place, cause), want) in cases {
+        let noted = FaultLine {
+            line,
+            number,
+            place,
+            cause,
+        };
+        let text = noted.to_string(rt.alloc())?;
+        assert_eq!(rt; text.as_str(), want);
+        shows(&rt, rt.alloc(), ListingLine::Noted(noted), want)?;
+    }
+    Ok(())
 }

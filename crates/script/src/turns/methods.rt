@@ -7,8 +7,9 @@ ghost use Rattle.script.specs.Turns.{numbered, items, items_left, Admitted};
 
 use super::Turns;
 use crate::command::call_in;
-use crate::fault::{ListFault, MOST_BYTES};
+use crate::fault::ListFault;
 use crate::lines::Lines;
+use crate::list::TurnList;
 use crate::listing::Fault;
 use calls::call::Call;
 
@@ -21,7 +22,7 @@ fn item(text: &[u8], line: usize) -> Result<Call, Fault>
 
 impl<'a> Turns<'a> {
     // The turns of these bytes, from the first line on. The lines are the bytes.
-    fn new(bytes: &'a [u8]) -> Turns<'a>
+    pub(crate) fn new(bytes: &'a [u8]) -> Turns<'a>
         ensures items { items_left result ≡ items bytes.now }
         ensures lines { LinesOfBytes bytes.now (lines_of bytes.now) }
     {
@@ -37,10 +38,7 @@ impl<'a> TryFrom<&'a [u8]> for Turns<'a> {
     ghost try_from_gives = { λ bytes answer. Admitted bytes.now answer };
 
     fn try_from(bytes: &'a [u8]) -> Result<Turns<'a>, ListFault> {
-        if bytes.len() > MOST_BYTES {
-            return Err(ListFault::TooLong);
-        }
-        Ok(Turns::new(bytes))
+        Ok(TurnList::try_from(bytes)?.turns())
     }
 }
 

@@ -3,21 +3,22 @@ ghost use Rattle.std.specs.Prelude.{◌≡◌};
 ghost use Rattle.std.specs.Iterator.{item_count};
 ghost use Rattle.script.specs.Cuts.{words};
 ghost use Rattle.script.specs.Parts.{words_left, NextWord};
+ghost use Rattle.script.specs.Readers.{text};
 
 use super::Words;
-use crate::cut::first_part;
-use crate::word::{Word, WordKind};
+use crate::reader::Reader;
+use crate::word::Word;
 
 impl<'a> Words<'a> {
     // The words of a line, from the first on.
+    #[tactic(auto, using(crate::proofs::Parts::words_from_start))]
     pub fn new(line: &'a [u8]) -> Words<'a>
-        ensures place { result.place ≡ 0 }
+        ensures place { result.reader.place ≡ 0 }
+        ensures text { text result.reader ≡ line.now }
         ensures words { words_left result ≡ words line.now }
     {
-        Words {
-            left: Some(line),
-            place: 0,
-        }
+        let reader = Reader::new(line);
+        Words { reader }
     }
 }
 
@@ -28,13 +29,9 @@ impl<'a> Iterator for Words<'a> {
 
     ghost remaining = { item_count words_left };
 
-    // The next word, by its kind and with its place.
+    // The next word, by its kind and with its place. Kept inlined, with the reader's `word`: else each word is handed over in memory, and a list of short orders took 1.3 times as long.
+    #[inline]
     fn next(&mut self) -> Option<Word<'a>> {
-        let (bytes, behind) = first_part(self.left?, b' ');
-        let kind = WordKind::from(bytes);
-        let place = self.place;
-        self.left = behind;
-        self.place += bytes.len() + 1;
-        Some(Word { bytes, place, kind })
+        self.reader.word()
     }
 }
