@@ -25,7 +25,4 @@ pub trait Book {
     // Gives one line a new value and leaves the others.
     fn write(&mut self, line: usize, value: Self::Value) -> Result<(), BookRefusal>
         ensures { Writes (lines self.old) line value (lines self.new) result };
-
-    // No book has more lines.
-    ghost few: { (book : Self) → length (lines book) ≤ 1024 };
 }

@@ -105,11 +105,6 @@ impl<B: Book> Book for Chapter<B> {
 
     ghost lines = { lines_of B.Book.lines };
 
-    ghost use Rattle.std.proofs.Common.{arith};
-    ghost use Rattle.std.proofs.lemmas.List.{length-take, length-drop};
-
-    ghost few = { λ c. Prim.simp (length-take, length-drop) (Prim.omega (arith, B.Book.few c.below)) };
-
     fn size(&self) -> usize
         ensures value { result ≡ length (lines_of B.Book.lines self.now) }
         ensures bound { result ≤ 1024 }

@@ -61,11 +61,6 @@ impl<'a, V: Copy> Book for FlatBook<'a, V> {
 
     ghost lines = { λ b. take 1024 b.memory.now };
 
-    ghost use Rattle.std.proofs.Common.{arith};
-    ghost use Rattle.std.proofs.lemmas.List.{length-take};
-
-    ghost few = { λ b. Prim.simp length-take (Prim.omega arith) };
-
     fn size(&self) -> usize {
         line_places(self.memory).len()
     }

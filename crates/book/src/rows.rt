@@ -18,7 +18,8 @@ impl<'a, B: Book> Rows<'a, B> {
 
     // The values of all lines.
     pub fn new(book: &'a B) -> Rows<'a, B>
-        ensures { rows_left result ≡ B.lines book.now }
+        ensures lines { rows_left result ≡ B.lines book.now }
+        ensures few { length (B.lines book.now) ≤ 1024 }
     {
         Rows {
             book,

@@ -87,6 +87,7 @@ fn put_value<R: Row>(row: R, out: &mut [u8], place: usize) -> usize
 fn saved_size<R: Row, B: Book<Value = R>>(book: &B) -> usize
     ensures value { result ≡ length (file_of R.Row.format (B.Book.lines book.now)) }
     ensures stated { result ≡ file_size R.Row.format (length (B.Book.lines book.now)) }
+    ensures few { length (B.Book.lines book.now) ≤ 1024 }
 {
     file_size::<R>(book.size())
 }
@@ -107,6 +108,7 @@ fn put_file<R: Row, B: Book<Value = R>>(book: &B, out: &mut [u8])
 pub fn save<R: Row, B: Book<Value = R>>(book: &B, out: &mut [u8]) -> Result<usize, SaveRefusal>
     ensures saves { Saves R.Row.format (B.Book.lines book.now) out.old out.new result }
     ensures keeps { IfOk result (λ size. KeepsLines R.Row.format (B.Book.lines book.now) (take size out.new)) }
+    ensures few { length (B.Book.lines book.now) ≤ 1024 }
 {
     let size = saved_size(book);
     if size > out.len() {

@@ -1,4 +1,6 @@
-// The sizes of books and chapters, what a write leaves, and the lines in order.
+// The sizes of books and chapters, what a write leaves, the lines in order, and a book of another make.
+ghost use Rattle.std.specs.Prelude.{◌≡◌};
+
 use book::book::Book;
 use book::chapter::Chapter;
 use book::flat::FlatBook;
@@ -83,6 +85,56 @@ fn the_lines_of_a_chapter_come_in_order(rt: HostRuntime) {
     let chapter = Chapter::new(FlatBook::new(&mut memory), 1, 3);
     let mut rows = Rows::new(&chapter);
     for want in [Some(10), Some(20), Some(30), None, None] {
+        assert_eq!(rt; rows.next(), want);
+    }
+}
+
+// A book that owns its memory; its make says of its size only what `size` promises.
+#[derive(Clone, Copy)]
+struct OwnBook {
+    memory: [u32; 4],
+}
+
+impl Book for OwnBook {
+    type Value = u32;
+
+    ghost lines = { λ b. b.memory };
+
+    fn size(&self) -> usize {
+        self.memory.len()
+    }
+
+    fn read(&self, line: usize) -> Result<u32, BookRefusal> {
+        if line >= self.memory.len() {
+            return Err(BookRefusal::NoLine);
+        }
+        Ok(self.memory[line])
+    }
+
+    fn write(&mut self, line: usize, value: u32) -> Result<(), BookRefusal> {
+        if line >= self.memory.len() {
+            return Err(BookRefusal::NoLine);
+        }
+        self.memory[line] = value;
+        Ok(())
+    }
+}
+
+#[test]
+fn a_book_of_another_make_is_a_book(rt: HostRuntime) {
+    let mut chapter = Chapter::new(
+        OwnBook {
+            memory: [0, 10, 20, 30],
+        },
+        1,
+        9,
+    );
+    assert_eq!(rt; chapter.size(), 3);
+    assert_eq!(rt; chapter.write(2, 31), Ok(()));
+    assert_eq!(rt; chapter.write(3, 41), Err(BookRefusal::NoLine));
+    let book = chapter.into_below();
+    let mut rows = Rows::new(&book);
+    for want in [Some(0), Some(10), Some(20), Some(31), None] {
         assert_eq!(rt; rows.next(), want);
     }
 }

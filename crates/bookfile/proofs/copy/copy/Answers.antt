@@ -16,10 +16,10 @@ returns-in_err-load g c =
     let p = err_from_is_err_and c.from_residual-in_err-load.result c.from_residual-in_err-load.ensures.1 in
     let s = c.in_ok-size.ensures.saves in
     let lines = g.B.Book.lines c.args.from.now in
-    rw (p.1, p.2) (loads_saved g.R.Row.format g.met.R.Row.sound lines (g.met.B.Book.few c.args.from.now) c.in_ok-size.size _ c.args.file.now c.save.new.out (g.C.Book.lines c.args.to.now) (g.C.Book.lines c.load.new.book) (Err c.in_err-load.field-0.0) s.0 (omega arith) s.2 c.in_err-load.ensures.loads)
+    rw (p.1, p.2) (loads_saved g.R.Row.format g.met.R.Row.sound lines c.save.ensures.few c.in_ok-size.size _ c.args.file.now c.save.new.out (g.C.Book.lines c.args.to.now) (g.C.Book.lines c.load.new.book) (Err c.in_err-load.field-0.0) s.0 (omega arith) s.2 c.in_err-load.ensures.loads)
 
 pub returns : goal.returns
 returns g c =
     let s = c.in_ok-size.ensures.saves in
     let lines = g.B.Book.lines c.args.from.now in
-    loads_saved g.R.Row.format g.met.R.Row.sound lines (g.met.B.Book.few c.args.from.now) c.in_ok-size.size _ c.args.file.now c.save.new.out (g.C.Book.lines c.args.to.now) (g.C.Book.lines c.load.new.book) (Ok tt) s.0 (omega arith) s.2 c.in_ok-load.ensures.loads
+    loads_saved g.R.Row.format g.met.R.Row.sound lines c.save.ensures.few c.in_ok-size.size _ c.args.file.now c.save.new.out (g.C.Book.lines c.args.to.now) (g.C.Book.lines c.load.new.book) (Ok tt) s.0 (omega arith) s.2 c.in_ok-load.ensures.loads
