@@ -9,7 +9,7 @@ pub struct Count;
 // Kept two numbers and no `Range`: a state is copied, and a range is not.
 #[derive(Clone, Copy)]
 pub struct Tally {
-    line: u32,
-    end: u32,
-    sum: u32,
+    pub line: u32,
+    pub end: u32,
+    pub sum: u32,
 }

@@ -9,9 +9,9 @@ pub struct Transfer;
 // So many metres are to go from one line to another.
 #[derive(Clone, Copy)]
 pub struct Move {
-    from: u32,
-    to: u32,
-    metres: u32,
+    pub from: u32,
+    pub to: u32,
+    pub metres: u32,
 }
 
 #[derive(Clone, Copy)]

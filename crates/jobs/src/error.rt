@@ -4,12 +4,14 @@ ghost use Rattle.jobs.specs.declared.error.JobError.TheVariants.{Stuck, NoMemory
 
 use calls::refusal::Refusal;
 use std::alloc::AllocError;
+use thiserror::Error;
 
-#[derive(Clone, Copy, Debug, PartialEq, Eq)]
+#[derive(Clone, Copy, Debug, PartialEq, Eq, Error)]
 pub enum JobError {
     // The job asked for a line that is not there, or for one write too many; it will never go on.
+    #[error("the job can never go on, by refusal {}", .0.number())]
     Stuck(Refusal),
-    // There is no room for the job's writes.
+    #[error("there is not enough memory for the job's writes")]
     NoMemory,
 }
 

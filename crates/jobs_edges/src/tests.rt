@@ -1,8 +1,10 @@
 use calls::ending::Ending;
 use jobs::error::JobError;
 
+mod errors;
 mod legs;
 mod ropes;
+mod states;
 
 // What came of a job: 0 with code and number, 99 if its turns are spent, or the refusal by which it is stuck.
 // Kept numbers: the tables of the tests have them, and keep the values that they had.

@@ -1,5 +1,5 @@
 // The turns of a job alone.
-ghost use Rattle.std.specs.Prelude.{◌≡◌, IfOk};
+ghost use Rattle.std.specs.Prelude.{◌≡◌, ◌≤◌, length, IfOk};
 ghost use Rattle.std.specs.List.{slice_get};
 ghost use Rattle.std.specs.Option.{ok_or, option_or};
 ghost use Rattle.calls.specs.declared.refusal.Refusal.TheVariants.{NoLine};
@@ -37,6 +37,14 @@ impl<S: Copy, V: Copy> Job<S, V> {
             state: family.start(order),
             writes,
         })
+    }
+
+    // How many writes it holds: 16 at most, of any job.
+    pub fn held(&self) -> usize
+        ensures value { result ≡ length self.now.writes }
+        ensures few { result ≤ 16 }
+    {
+        self.writes.len()
     }
 
     // The newest own write to a line, else the book's value.
