@@ -1,6 +1,6 @@
 -- What one leg, and a list of legs, does to the distances.
-use Rattle.std.proofs.Common.{◌≡◌, ℕ, ◌+◌, ◌<◌, ◌≤◌, min, Bool, true, false, cond, ◌⊎◌, List, [], ◌∷◌, length, get_or, set, Some, None, Option, sym, refl, ap, ◌∙◌, subst, inl, inr, arith, length-set, get_or-set_other, get_or-set_same}
-use Rattle.std.proofs.lemmas.Bool.{ltb-true, ltb-false, cases_eq}
+use Rattle.std.proofs.Common.{◌≡◌, ℕ, ◌+◌, ◌<◌, ◌≤◌, Bool, true, false, cond, ◌⊎◌, List, [], ◌∷◌, length, get_or, set, Some, None, Option, sym, refl, ap, ◌∙◌, subst, inl, inr, arith, lt-ltb, length-set, get_or-set_other, get_or-set_same}
+use Rattle.std.proofs.lemmas.Bool.{ltb-true, ltb-false, cond-true, cases_eq}
 use Rattle.survey.specs.declared.leg.LegRow.{LegRow}
 use Rattle.survey.specs.Legs.{leads}
 use Rattle.survey.proofs.Ranges.{InRange, leads_to_end}
@@ -160,9 +160,9 @@ module _ (legs : List LegRow) (u away : ℕ) where
 
     relax_one : (leg : LegRow) (r : List Station) → Among leg legs → length r ≡ 16 → distance_at r u ≡ Some away → Passed (leg ∷ []) r (relaxed u leg r)
     relax_one leg r i size e =
-        let m : min (away + leg.length) 4294967295 ≡ away + leg.length = omega (arith, (ranges leg i).short) in
+        let small : away + leg.length < beyond = omega (arith, (ranges leg i).short) in
         let f : relaxed u leg r ≡ relaxed_by u (away + leg.length) leg r =
-        ap (λ (o : Option ℕ). relaxed_from o u leg r) e ∙ ap (λ (d : ℕ). relaxed_by u d leg r) m in
+        ap (λ (o : Option ℕ). relaxed_from o u leg r) e ∙ cond-true _ _ _ (lt-ltb (away + leg.length) beyond small) in
         subst (Passed (leg ∷ []) r) (sym f) (relax_by leg r i size)
 
     pub pass : (ls : List LegRow) (r : List Station) → ((leg : LegRow) → Among leg ls → Among leg legs) → length r ≡ 16 → distance_at r u ≡ Some away

@@ -1,5 +1,5 @@
 -- What a search knows of the stations: one leg taken into account, and the nearest unfinished station.
-use Rattle.std.specs.Prelude.{ℕ, zero, suc, ◌+◌, ◌<◌, min, Bool, true, false, cond, List, Some, None, Option, nat_lt, replicate, slice_index_or, slice_set}
+use Rattle.std.specs.Prelude.{ℕ, zero, suc, ◌+◌, ◌<◌, Bool, true, false, cond, List, Some, None, Option, nat_lt, replicate, slice_index_or, slice_set}
 use Rattle.survey.specs.declared.leg.LegRow.{LegRow}
 use Rattle.survey.specs.Legs.{leads}
 use Rattle.routes.specs.declared.reach.Nearest.{Nearest}
@@ -37,10 +37,10 @@ improved_by leg u v d ss = cond (leads leg u v) (improved v d ss) ss
 abbrev pub relaxed_by : ℕ → ℕ → LegRow → List Station → List Station
 relaxed_by u d leg ss = improved_by leg u leg.from d (improved_by leg u leg.to d ss)
 
--- a leg from station u, which is reached at the distance, if at any
+-- a leg from station u, which is reached at the distance, if at any; a sum of 4294967295 or more is the length of no route
 abbrev pub relaxed_from : Option ℕ → ℕ → LegRow → List Station → List Station
 relaxed_from None u leg ss = ss
-relaxed_from (Some d) u leg ss = relaxed_by u (min (d + leg.length) 4294967295) leg ss
+relaxed_from (Some d) u leg ss = cond (nat_lt (d + leg.length) 4294967295) (relaxed_by u (d + leg.length) leg ss) ss
 
 -- the stations, with a leg from station u taken into account
 abbrev pub relaxed : ℕ → LegRow → List Station → List Station

@@ -14,7 +14,7 @@ use Rattle.routes.specs.declared.search.Next.{Next}
 use Rattle.routes.specs.declared.search.Next.TheVariants.{Line, Ended}
 use Rattle.routes.specs.declared.reach.Nearest.{Nearest}
 use Rattle.routes.specs.declared.reach.Reach.{Reach}
-use Rattle.routes.specs.Reaches.{reached_first, relaxed, marked, nearest_of}
+use Rattle.routes.specs.Reaches.{all_unknown, reached_first, relaxed, marked, nearest_of}
 
 -- an order that no search can be made of: another kind, a station above 15, more than 64 lines
 abbrev pub bad_order : Order → Bool
@@ -23,6 +23,10 @@ bad_order o = nat_lt 0 o.kind || (nat_lt 15 o.a || (nat_lt 15 o.b || nat_lt 64 o
 -- the station a is the first to be finished, unless it is the target, or there is no line to read
 abbrev pub first_next : ℕ → ℕ → ℕ → Next
 first_next a b c = cond (a == b) (Ended (Some 0)) (cond (c == 0) (Ended None) (Line a 0))
+
+-- before the first station is finished
+abbrev pub not_begun : ℕ → ℕ → ℕ → Search
+not_begun a b c = record { target = b; count = c; next = first_next a b c; reach = record { stations = all_unknown } }
 
 abbrev pub begun_at : ℕ → ℕ → ℕ → Search
 begun_at a b c = record { target = b; count = c; next = first_next a b c; reach = record { stations = reached_first a } }

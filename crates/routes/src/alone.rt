@@ -42,7 +42,8 @@ fn answer<B: Book<Value = LegRow>>(book: &B, errand: Errand) -> Option<u32>
     requires { errand.count ≤ length (B.lines book.now) }
     ensures { Answers (legs_of (B.lines book.now) errand.count) errand.from errand.to result }
 {
-    let mut search = Search::begin(errand);
+    let mut search = Search::before(errand);
+    search.begin(errand);
     take_turns(book, &mut search, MOST_PASSES * u32::from(errand.count));
     search.length_found()
 }

@@ -1,6 +1,6 @@
 // The family of jobs that search a book of legs.
 ghost use Rattle.std.specs.Prelude.{◌≡◌};
-ghost use Rattle.routes.specs.Searches.{ending_of, route_family};
+ghost use Rattle.routes.specs.Searches.{ending_of, request_of, route_family};
 
 use crate::errand::Errand;
 use crate::search::{Next, Search};
@@ -36,6 +36,20 @@ fn ending(found: Option<u32>) -> Ending
     }
 }
 
+impl Search {
+    // What the job of this search asks for.
+    fn request(&self) -> Request<LegRow>
+        ensures { result ≡ request_of self.now.next }
+    {
+        match self.next {
+            Next::Line { line, .. } => Request::Read {
+                line: u32::from(line),
+            },
+            Next::Ended(found) => Request::End(ending(found)),
+        }
+    }
+}
+
 impl Family for Route {
     type State = Result<Search, BadOrder>;
 
@@ -44,23 +58,25 @@ impl Family for Route {
     ghost meaning = { λ _. route_family };
 
     fn start(&self, order: Order) -> Self::State {
-        Ok(Search::begin(Errand::try_from(order)?))
+        let errand = Errand::try_from(order)?;
+        let mut search = Search::before(errand);
+        search.begin(errand);
+        Ok(search)
     }
 
     fn request(&self, state: Self::State) -> Request<Self::Value> {
-        match state.map(|search| search.next) {
-            Ok(Next::Line { line, .. }) => Request::Read {
-                line: u32::from(line),
-            },
-            Ok(Next::Ended(found)) => Request::End(ending(found)),
+        match state {
+            Ok(search) => search.request(),
             Err(bad) => Request::End(Ending::from(bad)),
         }
     }
 
     fn after_read(&self, state: Self::State, value: LegRow) -> Self::State {
-        let mut search = state?;
-        search.take_in(value);
-        Ok(search)
+        let mut state = state;
+        if let Ok(search) = &mut state {
+            search.take_in(value);
+        }
+        state
     }
 
     // A search writes nothing.

@@ -1,6 +1,6 @@
 // How far the stations are by the routes that a search has found, and the nearest that it has not finished.
-ghost use Rattle.std.specs.Prelude.{◌≡◌, ◌<◌, ◌≤◌};
-ghost use Rattle.routes.specs.Reaches.{unknown, all_unknown, reached_first, station_at, improved, relaxed, marked, with_station, nearest_of, Inside};
+ghost use Rattle.std.specs.Prelude.{◌≡◌, ◌<◌, ◌≤◌, Some, true, slice_set};
+ghost use Rattle.routes.specs.Reaches.{unknown, all_unknown, station_at, improved, relaxed, marked, with_station, nearest_of, Inside};
 
 use survey::leg::Leg;
 
@@ -60,7 +60,7 @@ impl Station {
 // Stations are kept bytes: a state lies in memory that others could alter, so that it may hold any byte.
 impl Reach {
     // No station is reached.
-    fn nowhere() -> Reach
+    pub(crate) fn nowhere() -> Reach
         ensures { result.stations ≡ all_unknown }
     {
         Reach {
@@ -68,17 +68,15 @@ impl Reach {
         }
     }
 
-    // The first station alone is reached, and it is the first to be finished.
-    pub(crate) fn first(station: u8) -> Reach
+    // The first station is reached at distance 0, and finished.
+    pub(crate) fn finish_first(&mut self, station: u8)
         requires { station < 16 }
-        ensures { result.stations ≡ reached_first station }
+        ensures { self.new.stations ≡ slice_set self.old.stations station (record { distance = Some 0; finished = true }) }
     {
-        let mut reach = Reach::nowhere();
-        reach.stations[usize::from(station)] = Station {
+        self.stations[usize::from(station)] = Station {
             distance: Some(0),
             finished: true,
         };
-        reach
     }
 
     fn station(&self, number: u8) -> Station
@@ -101,7 +99,7 @@ impl Reach {
         }
     }
 
-    // Takes a leg from `station` into account.
+    // Takes a leg from `station` into account. A sum that comes to the largest number of 32 bits, as none does in a search, is the length of no route.
     pub(crate) fn relax(&mut self, station: u8, leg: Leg)
         ensures { self.new.stations ≡ relaxed station leg.row self.old.stations }
     {
@@ -109,6 +107,9 @@ impl Reach {
             return;
         };
         let along = distance.saturating_add(leg.length());
+        if along == u32::MAX {
+            return;
+        }
         if leg.leads(station, leg.to()) {
             self.improve(leg.to(), along);
         }

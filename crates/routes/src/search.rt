@@ -1,6 +1,6 @@
 // The state of a search, and how it goes on.
 ghost use Rattle.std.specs.Prelude.{◌≡◌};
-ghost use Rattle.routes.specs.Searches.{begun_at, first_next, choose, line_done, after_row};
+ghost use Rattle.routes.specs.Searches.{not_begun, begun_at, first_next, choose, line_done, after_row};
 ghost use Rattle.routes.specs.Answers.{length_found};
 
 use crate::errand::Errand;
@@ -27,16 +27,24 @@ pub struct Search {
 }
 
 impl Search {
-    // The search of an errand; the first station is finished first.
-    pub(crate) fn begin(errand: Errand) -> Search
-        ensures { result ≡ begun_at errand.from errand.to errand.count }
+    // The search of an errand, before its first station is finished.
+    pub(crate) fn before(errand: Errand) -> Search
+        ensures { result ≡ not_begun errand.from errand.to errand.count }
     {
         Search {
             target: errand.to,
             count: errand.count,
             next: first_next(errand),
-            reach: Reach::first(errand.from),
+            reach: Reach::nowhere(),
         }
+    }
+
+    // Finishes the first station in place, so that a search done alone is not moved once it is begun: moved, it is copied by C's `memcpy`.
+    pub(crate) fn begin(&mut self, errand: Errand)
+        requires { self.old ≡ not_begun errand.from errand.to errand.count }
+        ensures { self.new ≡ begun_at errand.from errand.to errand.count }
+    {
+        self.reach.finish_first(errand.from);
     }
 
     // Goes on with the nearest unfinished station, unless that is the target, or none is reached.

@@ -5,6 +5,8 @@ use calls::order::Order;
 use jobs::family::Family;
 use jobs::request::Request;
 use routes::family::Route;
+use routes::reach::{Reach, STATIONS, Station};
+use routes::search::{Next, Search};
 use std::test::Fail;
 use survey::leg::LegRow;
 
@@ -102,4 +104,45 @@ fn moves_out_of_turn_change_nothing(rt: HostRuntime) -> Result<(), Fail> {
     };
     assert_eq!(rt; (code, number), (0, 0));
     Ok(())
+}
+
+// What a job ends with whose first station stands so far away, once it has read the leg of 10 from there to its target.
+fn past(distance: u32) -> Request<LegRow> {
+    let unknown = Station {
+        distance: None,
+        finished: false,
+    };
+    let mut stations = [unknown; STATIONS];
+    stations[0] = Station {
+        distance: Some(distance),
+        finished: true,
+    };
+    let search = Search {
+        target: 1,
+        count: 1,
+        next: Next::Line {
+            station: 0,
+            line: 0,
+        },
+        reach: Reach { stations },
+    };
+    Route.request(Route.after_read(Ok(search), open_leg(0, 1, 10)))
+}
+
+#[test]
+fn a_sum_past_all_lengths_is_no_route(rt: HostRuntime) {
+    let far = past(4_294_967_284);
+    assert!(rt;
+        matches!(
+            &far,
+            Request::End(Ending {
+                code: 0,
+                number: 4_294_967_294
+            })
+        )
+    );
+    for distance in [4_294_967_285, 4_294_967_290, 4_294_967_294] {
+        let none = past(distance);
+        assert!(rt; matches!(&none, Request::End(Ending { code: 1, number: 0 })));
+    }
 }
