@@ -1,11 +1,11 @@
 -- What one leg, and a list of legs, does to the distances.
-use Rattle.std.proofs.Common.{◌≡◌, ℕ, ◌+◌, ◌<◌, ◌≤◌, Bool, true, false, cond, ◌⊎◌, List, [], ◌∷◌, length, get_or, set, Some, None, Option, sym, refl, ap, ◌∙◌, subst, inl, inr, arith, lt-ltb, length-set, get_or-set_other, get_or-set_same}
-use Rattle.std.proofs.lemmas.Bool.{ltb-true, ltb-false, cond-true, cases_eq}
+use Rattle.std.proofs.Common.{◌≡◌, ℕ, ◌+◌, ◌<◌, ◌≤◌, min, Bool, true, false, cond, ◌⊎◌, List, [], ◌∷◌, length, get_or, set, Some, None, Option, sym, refl, ap, ◌∙◌, subst, inl, inr, arith, length-set, get_or-set_other, get_or-set_same}
+use Rattle.std.proofs.lemmas.Bool.{ltb-true, ltb-false, cases_eq}
 use Rattle.survey.specs.declared.leg.LegRow.{LegRow}
 use Rattle.survey.specs.Legs.{leads}
 use Rattle.survey.proofs.Ranges.{InRange, leads_to_end}
 use Rattle.routes.specs.declared.reach.Station.{Station}
-use Rattle.routes.specs.Reaches.{unknown, is_shorter, improved, improved_by, relaxed_by, relaxed_from, relaxed}
+use Rattle.routes.specs.Reaches.{unknown, is_noted, improved, improved_by, relaxed_by, relaxed_from, relaxed}
 use Rattle.routes.specs.Routes.{Among}
 use Rattle.routes.proofs.Flags.{is_finished, distance_at, clash}
 
@@ -25,12 +25,12 @@ pub reached_at : (o : Option ℕ) → or_beyond o < beyond → o ≡ Some (or_be
 reached_at None h = absurd (let q : ⊥ = omega arith in q)
 reached_at (Some d) h = refl
 
-shorter : (d : ℕ) (o : Option ℕ) → d < beyond → is_shorter d o ≡ true → d < or_beyond o
-shorter d None h e = h
-shorter d (Some l) h e = ltb-true _ _ e
+shorter : (d : ℕ) (o : Option ℕ) → is_noted d o ≡ true → d < or_beyond o
+shorter d None e = ltb-true _ _ e
+shorter d (Some l) e = ltb-true _ _ e
 
-no_shorter : (d : ℕ) (o : Option ℕ) → is_shorter d o ≡ false → or_beyond o ≤ d
-no_shorter d None e = clash true refl e
+no_shorter : (d : ℕ) (o : Option ℕ) → is_noted d o ≡ false → or_beyond o ≤ d
+no_shorter d None e = ltb-false _ _ e
 no_shorter d (Some l) e = ltb-false _ _ e
 
 -- each station is as it was, or has become nearer by a way of which K holds; the marks stay
@@ -62,7 +62,7 @@ gains_both {K} {r} {s} {t} g h =
     }
 
 -- a way of length d to station v, where K holds of it once it is found
-module _ (K : ℕ → ℕ → Type 0) (v d : ℕ) (r : List Station) (in_List : v < length r) (small : d < beyond) where
+module _ (K : ℕ → ℕ → Type 0) (v d : ℕ) (r : List Station) (in_List : v < length r) where
   pub record Noted (found : Bool) (s : List Station) : Type 0 where
     pub gains : Gains K r s
     pub low : found ≡ true → far s v ≤ d
@@ -99,18 +99,18 @@ module _ (K : ℕ → ℕ → Type 0) (v d : ℕ) (r : List Station) (in_List : 
       }
 
   -- by whether the way is shorter
-  noted_at : (short : Bool) → K v d → is_shorter d (distance_at r v) ≡ short → Noted true (cond short written r)
+  noted_at : (short : Bool) → K v d → is_noted d (distance_at r v) ≡ short → Noted true (cond short written r)
   noted_at false k e = record { gains = gains_none r; low = λ f. no_shorter d (distance_at r v) e }
   noted_at true k e =
       record {
-        gains = written_gains k (shorter d (distance_at r v) small e);
+        gains = written_gains k (shorter d (distance_at r v) e);
         low = λ f. omega (arith, ap (λ (s : Station). or_beyond s.distance) (written_here v refl));
       }
 
   -- by whether it is found
   noted : (found : Bool) → (found ≡ true → K v d) → Noted found (cond found (improved v d r) r)
   noted false k = record { gains = gains_none r; low = λ f. clash false f refl }
-  noted true k = noted_at (is_shorter d (distance_at r v)) (k refl) refl
+  noted true k = noted_at (is_noted d (distance_at r v)) (k refl) refl
 
 -- what is known of the stations once the legs, in their order, were taken into account
 abbrev pub relaxed_all : ℕ → List LegRow → List Station → List Station
@@ -137,9 +137,9 @@ module _ (legs : List LegRow) (u away : ℕ) where
     relax_by leg r i size =
         let k = ranges leg i in
         let d = away + leg.length in
-        let forth = noted Via leg.to d r (omega (arith, k.to_low)) (omega (arith, k.short)) (leads leg u leg.to) (λ e. (leg, i, e, refl)) in
+        let forth = noted Via leg.to d r (omega (arith, k.to_low)) (leads leg u leg.to) (λ e. (leg, i, e, refl)) in
         let s = improved_by leg u leg.to d r in
-        let back = noted Via leg.from d s (omega (arith, forth.gains.size, k.from_low)) (omega (arith, k.short)) (leads leg u leg.from) (λ e. (leg, i, e, refl)) in
+        let back = noted Via leg.from d s (omega (arith, forth.gains.size, k.from_low)) (leads leg u leg.from) (λ e. (leg, i, e, refl)) in
         let t = relaxed_by u d leg r in
         let low : (v : ℕ) → leads leg u v ≡ true → far t v ≤ d =
         λ v e.
@@ -160,9 +160,9 @@ module _ (legs : List LegRow) (u away : ℕ) where
 
     relax_one : (leg : LegRow) (r : List Station) → Among leg legs → length r ≡ 16 → distance_at r u ≡ Some away → Passed (leg ∷ []) r (relaxed u leg r)
     relax_one leg r i size e =
-        let small : away + leg.length < beyond = omega (arith, (ranges leg i).short) in
+        let m : min (away + leg.length) 4294967295 ≡ away + leg.length = omega (arith, (ranges leg i).short) in
         let f : relaxed u leg r ≡ relaxed_by u (away + leg.length) leg r =
-        ap (λ (o : Option ℕ). relaxed_from o u leg r) e ∙ cond-true _ _ _ (lt-ltb (away + leg.length) beyond small) in
+        ap (λ (o : Option ℕ). relaxed_from o u leg r) e ∙ ap (λ (d : ℕ). relaxed_by u d leg r) m in
         subst (Passed (leg ∷ []) r) (sym f) (relax_by leg r i size)
 
     pub pass : (ls : List LegRow) (r : List Station) → ((leg : LegRow) → Among leg ls → Among leg legs) → length r ≡ 16 → distance_at r u ≡ Some away

@@ -1,5 +1,5 @@
 -- What a search knows of the stations: one leg taken into account, and the nearest unfinished station.
-use Rattle.std.specs.Prelude.{ℕ, zero, suc, ◌+◌, ◌<◌, Bool, true, false, cond, List, Some, None, Option, nat_lt, replicate, slice_index_or, slice_set}
+use Rattle.std.specs.Prelude.{ℕ, zero, suc, ◌+◌, ◌<◌, min, Bool, true, false, cond, List, Some, None, Option, nat_lt, replicate, slice_index_or, slice_set, unwrap_or}
 use Rattle.survey.specs.declared.leg.LegRow.{LegRow}
 use Rattle.survey.specs.Legs.{leads}
 use Rattle.routes.specs.declared.reach.Nearest.{Nearest}
@@ -24,10 +24,14 @@ abbrev pub is_shorter : ℕ → Option ℕ → Bool
 is_shorter d None = true
 is_shorter d (Some e) = nat_lt d e
 
+-- whether a route of length d is noted: it is shorter than the shortest that was found, if one was; 4294967295 is the length of no route
+abbrev pub is_noted : ℕ → Option ℕ → Bool
+is_noted d o = nat_lt d (unwrap_or o 4294967295)
+
 -- the stations, where a route of length d to station v was found
 abbrev pub improved : ℕ → ℕ → List Station → List Station
 improved v d ss =
-    cond (is_shorter d (station_at ss v).distance) (slice_set ss v (record { distance = Some d; finished = (station_at ss v).finished })) ss
+    cond (is_noted d (station_at ss v).distance) (slice_set ss v (record { distance = Some d; finished = (station_at ss v).finished })) ss
 
 -- the same, if the leg leads to it from station u
 abbrev pub improved_by : LegRow → ℕ → ℕ → ℕ → List Station → List Station
@@ -37,10 +41,10 @@ improved_by leg u v d ss = cond (leads leg u v) (improved v d ss) ss
 abbrev pub relaxed_by : ℕ → ℕ → LegRow → List Station → List Station
 relaxed_by u d leg ss = improved_by leg u leg.from d (improved_by leg u leg.to d ss)
 
--- a leg from station u, which is reached at the distance, if at any; a sum of 4294967295 or more is the length of no route
+-- a leg from station u, which is reached at the distance, if at any
 abbrev pub relaxed_from : Option ℕ → ℕ → LegRow → List Station → List Station
 relaxed_from None u leg ss = ss
-relaxed_from (Some d) u leg ss = cond (nat_lt (d + leg.length) 4294967295) (relaxed_by u (d + leg.length) leg ss) ss
+relaxed_from (Some d) u leg ss = relaxed_by u (min (d + leg.length) 4294967295) leg ss
 
 -- the stations, with a leg from station u taken into account
 abbrev pub relaxed : ℕ → LegRow → List Station → List Station

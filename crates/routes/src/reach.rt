@@ -88,18 +88,18 @@ impl Reach {
             .unwrap_or(Station::unknown())
     }
 
-    // Notes a route of length `distance` to a station, if it is shorter.
+    // Notes a route of length `distance` to a station, if it is shorter. The largest number of 32 bits, to which no search comes, is the length of no route.
     fn improve(&mut self, station: u8, distance: u32)
         requires { station ≤ 15 }
         ensures { self.new.stations ≡ improved station distance self.old.stations }
     {
         let known = &mut self.stations[usize::from(station)];
-        if known.distance.is_none_or(|least| distance < least) {
+        if distance < known.distance.unwrap_or(u32::MAX) {
             known.distance = Some(distance);
         }
     }
 
-    // Takes a leg from `station` into account. A sum that comes to the largest number of 32 bits, as none does in a search, is the length of no route.
+    // Takes a leg from `station` into account.
     pub(crate) fn relax(&mut self, station: u8, leg: Leg)
         ensures { self.new.stations ≡ relaxed station leg.row self.old.stations }
     {
@@ -107,9 +107,6 @@ impl Reach {
             return;
         };
         let along = distance.saturating_add(leg.length());
-        if along == u32::MAX {
-            return;
-        }
         if leg.leads(station, leg.to()) {
             self.improve(leg.to(), along);
         }
