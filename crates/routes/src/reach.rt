@@ -88,7 +88,7 @@ impl Reach {
             .unwrap_or(Station::unknown())
     }
 
-    // Notes a route of length `distance` to a station, if it is shorter. The largest number of 32 bits, to which no search comes, is the length of no route.
+    // Notes a route of length `distance` to a station, if it is shorter. The largest number of 32 bits, to which no search comes, is never noted.
     fn improve(&mut self, station: u8, distance: u32)
         requires { station ≤ 15 }
         ensures { self.new.stations ≡ improved station distance self.old.stations }
