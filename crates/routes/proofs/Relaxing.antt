@@ -98,7 +98,7 @@ module _ (K : ℕ → ℕ → Type 0) (v d : ℕ) (r : List Station) (in_List : 
             ];
       }
 
-  -- by whether the way is shorter
+  -- by whether the way is noted
   noted_at : (short : Bool) → K v d → is_noted d (distance_at r v) ≡ short → Noted true (cond short written r)
   noted_at false k e = record { gains = gains_none r; low = λ f. no_shorter d (distance_at r v) e }
   noted_at true k e =
